@@ -146,6 +146,25 @@ fn gather_keys(family: Family, packets: &[Packet], keys: &mut [u8]) -> Gathered
     ensures keys { take result.bytes keys.new ≡ keys_of family packets.now }
     ensures len { length keys.new ≡ length keys.old }
 {
+    // Each family has a call of its own, in which the length of a key is settled.
+    match family {
+        Family::Ip4 => gather_each(Family::Ip4, packets, keys),
+        Family::Ip6 => gather_each(Family::Ip6, packets, keys),
+    }
+}
+
+/// The same, where the family is known when this is compiled.
+#[inline(always)]
+fn gather_each(family: Family, packets: &[Packet], keys: &mut [u8]) -> Gathered
+    requires few { length packets.now ≤ max_batch }
+    requires packets { All IsPacket packets.now }
+    requires room { BATCH_KEYS ≤ length keys.old }
+    ensures count { result.packets ≡ number_of family packets.now }
+    ensures few { result.packets ≤ length packets.now }
+    ensures within { result.bytes ≤ length keys.old }
+    ensures keys { take result.bytes keys.new ≡ keys_of family packets.now }
+    ensures len { length keys.new ≡ length keys.old }
+{
     let (mut count, mut end) = (0, 0);
     for packet in packets {
         if is_of(family, packet.class()) {

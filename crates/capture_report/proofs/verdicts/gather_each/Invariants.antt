@@ -2,7 +2,7 @@
 use Rattle.std.proofs.Common.{◌≡◌, ◌+◌, ◌*◌, ◌≤◌, ◌++◌, length, drop, take}
 use Rattle.table_sizes.specs.Groups.{ip6_key_len}
 use Rattle.capture_report.specs.Batch.{keys_of, number_of}
-use Rattle.capture_report.proofs.verdicts.gather_keys.Given as goal
+use Rattle.capture_report.proofs.verdicts.gather_each.Given as goal
 
 abbrev pub invariant-loop-packet : goal.invariant-loop-packet
 invariant-loop-packet l =
