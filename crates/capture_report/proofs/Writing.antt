@@ -133,6 +133,38 @@ answered_none {p = p} answered shown (inr is) is_left4 is_left6 =
     let short : p.class ≡ Short = sym shown ∙ is in
     rw (is_left4, is_left6) record { on_ip4 = rw short at answered.on_ip4; on_ip6 = rw short at answered.on_ip6 }
 
+-- in front of the verdicts that are left stand those of a key
+front_verdicts : (table : TableView) (key others left : List ℕ) (n count : ℕ) →
+    left ≡ key_verdicts table n key ++ others → count ≡ n →
+    (count ≤ length left) × (take count left ≡ key_verdicts table n key)
+front_verdicts table key others left n count is is_count =
+    let first = key_verdicts table n key in (
+      omega (arith, ap length is, length-append first others, verdicts_count table key n, is_count),
+      ap (take count) is
+          ∙ ap (λ k. take k (first ++ others)) (is_count ∙ sym (verdicts_count table key n))
+          ∙ take-append_seam first others,
+    )
+
+-- so it is of the first IPv4 packet
+pub verdicts_ip4 : {form : ReportForm} {p : FrameClass} {rest : List FrameClass} {ip4 ip6 : List ℕ} {count : ℕ} →
+    AreAnswered form (p ∷ rest) ip4 ip6 → p.class ≡ Ip4 → count ≡ form.categories →
+    (count ≤ length ip4) × (take count ip4 ≡ verdicts_on p.class form p.key)
+verdicts_ip4 {form = form} {p = p} {rest = rest} {ip4 = ip4} {count = count} answered is is_count =
+    let n = form.categories in
+    rw is
+    (front_verdicts form.tables.ip4 p.key (verdicts_of family.Ip4 form.tables.ip4 n rest) ip4 n count
+    (rw is at answered.on_ip4) is_count)
+
+-- and of the first IPv6 packet
+pub verdicts_ip6 : {form : ReportForm} {p : FrameClass} {rest : List FrameClass} {ip4 ip6 : List ℕ} {count : ℕ} →
+    AreAnswered form (p ∷ rest) ip4 ip6 → p.class ≡ Ip6 → count ≡ form.categories →
+    (count ≤ length ip6) × (take count ip6 ≡ verdicts_on p.class form p.key)
+verdicts_ip6 {form = form} {p = p} {rest = rest} {ip6 = ip6} {count = count} answered is is_count =
+    let n = form.categories in
+    rw is
+    (front_verdicts form.tables.ip6 p.key (verdicts_of family.Ip6 form.tables.ip6 n rest) ip6 n count
+    (rw is at answered.on_ip6) is_count)
+
 -- there is a dash or none for each verdict
 pub same_count : (form : ReportForm) (class : Class) (key : List ℕ) →
     length (dashes_on class form key) ≡ length (verdicts_on class form key)

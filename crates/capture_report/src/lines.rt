@@ -51,20 +51,26 @@ pub fn write_lines(
     ensures counts { counts.new ≡ counted_all packets.now counts.old }
     ensures len { length lines.new ≡ length lines.old }
 {
-    // What depends on the marks is settled once, and not line by line.
-    if form.has_marks() {
-        write_each::<true>(
+    // What depends on the marks, and on a single category, is settled once, and not line by line.
+    let one = form.categories().count() == 1;
+    match (form.has_marks(), one) {
+        (true, true) => write_each::<true, true>(
             form, packets, ip4, ip6, ip4_dashes, ip6_dashes, counts, lines,
-        )
-    } else {
-        write_each::<false>(
+        ),
+        (true, false) => write_each::<true, false>(
             form, packets, ip4, ip6, ip4_dashes, ip6_dashes, counts, lines,
-        )
+        ),
+        (false, true) => write_each::<false, true>(
+            form, packets, ip4, ip6, ip4_dashes, ip6_dashes, counts, lines,
+        ),
+        (false, false) => write_each::<false, false>(
+            form, packets, ip4, ip6, ip4_dashes, ip6_dashes, counts, lines,
+        ),
     }
 }
 
-/// The same, where it is known whether marks are asked for.
-fn write_each<const MARKS: bool>(
+/// The same, where it is known whether marks are asked for, and whether a single category is shown.
+fn write_each<const MARKS: bool, const ONE: bool>(
     form: &FormByTables<'_>,
     packets: &[Packet],
     mut ip4: &[u32],
@@ -75,6 +81,7 @@ fn write_each<const MARKS: bool>(
     lines: &mut [u8],
 ) -> usize
     requires marks { form.now.marks ≡ MARKS }
+    requires one { ONE ≡ true → form.now.categories ≡ 1 }
     requires next { AreNext counts.old packets.now }
     requires answered { AreAnswered form.now packets.now ip4.now ip6.now }
     requires marked { form.now.marks ≡ true
@@ -86,7 +93,7 @@ fn write_each<const MARKS: bool>(
     ensures counts { counts.new ≡ counted_all packets.now counts.old }
     ensures len { length lines.new ≡ length lines.old }
 {
-    let count = form.categories().count();
+    let count = shown_categories::<ONE>(form);
     let mut number = LineNumber::new(counts.packets + 1);
     let mut at = 0;
     for packet in packets {
@@ -111,6 +118,18 @@ fn write_each<const MARKS: bool>(
         number.advance();
     }
     at
+}
+
+/// How many categories are shown of each packet, where it is known whether it is a single one.
+#[inline(always)]
+fn shown_categories<const ONE: bool>(form: &FormByTables<'_>) -> usize
+    requires { ONE ≡ true → form.now.categories ≡ 1 }
+    ensures count { result ≡ form.now.categories }
+    ensures few { result ≤ MAX_VERDICTS }
+    ensures by_tables { form.now.classifier ≡ ByTables form.now.tables }
+{
+    let count = form.categories().count();
+    if ONE { 1 } else { count }
 }
 
 /// Takes what belongs to a packet off the front of what is left.

@@ -4,10 +4,10 @@ use Rattle.std.proofs.lemmas.List.{drop_more}
 use Rattle.header_extract.specs.Class.{FrameClass}
 use Rattle.list_lemmas.proofs.Loops.{left_is}
 use Rattle.acl_report.specs.Counting.{counted}
-use Rattle.capture_report.specs.Batch.{AreMarked}
+use Rattle.capture_report.specs.Batch.{AreAnswered, AreMarked}
 use Rattle.capture_report.proofs.Writing.{Written, Written-next, answered_ip4, answered_ip6, answered_none}
 use Rattle.capture_report.proofs.Writing.{marked_ip4, marked_ip6, marked_none, front_ip4, front_ip6}
-use Rattle.capture_report.proofs.Writing.{shown_ip4, shown_ip6}
+use Rattle.capture_report.proofs.Writing.{shown_ip4, shown_ip6, verdicts_ip4, verdicts_ip6}
 use Rattle.capture_report.proofs.lines.write_each.Goals as goal
 use Rattle.capture_report.proofs.lines.write_each.Goals.{in-Ip4, in-Ip6, in-Other}
 
@@ -28,8 +28,7 @@ loop-packet-preserved g c =
     let is_class = c.class-class.ensures in
     let is_now : c.add.new.self ≡ counted p.class l.counts = c.add.ensures
     ∙ ap (λ class. counted class l.counts) is_class in
-    let is_count : c.count-count.result ≡ form.categories = c.count-count.ensures.value
-    ∙ c.categories.ensures.count in
+    let is_count : c.shown_categories-count.result ≡ form.categories = c.shown_categories-count.ensures.count in
     elim c.match-class.branch [
       | in-Ip4 w ↦
           let line = w.write_line-at.ensures in
@@ -65,7 +64,7 @@ take_dashes-dashes-requires-clause-front g c asked =
     let marked = subst (λ (left : List FrameClass). AreMarked c.args.form.now left c.loop-packet.ip4_dashes.now
     c.loop-packet.ip6_dashes.now) left (c.loop-packet.invariant.marked (c.requires.marks ∙ asked)) in
     let front = front_ip4 marked (sym c.class-class.ensures ∙ c.in-Ip4.is)
-    (c.count-count.ensures.value ∙ c.categories.ensures.count) in
+    c.shown_categories-count.ensures.count in
     front.0
 
 pub take_dashes-dashes-requires-in-Ip6-clause-front : goal.take_dashes-dashes-requires-in-Ip6-clause-front
@@ -75,7 +74,7 @@ take_dashes-dashes-requires-in-Ip6-clause-front g c asked =
     let marked = subst (λ (left : List FrameClass). AreMarked c.args.form.now left c.loop-packet.ip4_dashes.now
     c.loop-packet.ip6_dashes.now) left (c.loop-packet.invariant.marked (c.requires.marks ∙ asked)) in
     let front = front_ip6 marked (sym c.class-class.ensures ∙ c.in-Ip6.is)
-    (c.count-count.ensures.value ∙ c.categories.ensures.count) in
+    c.shown_categories-count.ensures.count in
     front.0
 
 pub write_line-at-requires-clause-dashes : goal.write_line-at-requires-clause-dashes
@@ -91,7 +90,7 @@ write_line-at-requires-clause-dashes g c =
     subst (λ (left : List FrameClass). AreMarked form left l.ip4_dashes.now l.ip6_dashes.now) left
     (l.invariant.marked asked) in
     shown_ip4 _ c.requires.marks marked (sym c.class-class.ensures ∙ c.in-Ip4.is)
-    (c.count-count.ensures.value ∙ c.categories.ensures.count) c.take_dashes-dashes.ensures.front
+    c.shown_categories-count.ensures.count c.take_dashes-dashes.ensures.front
     c.take_dashes-dashes.ensures.none
 
 pub write_line-at-requires-in-Ip6-clause-dashes : goal.write_line-at-requires-in-Ip6-clause-dashes
@@ -107,5 +106,45 @@ write_line-at-requires-in-Ip6-clause-dashes g c =
     subst (λ (left : List FrameClass). AreMarked form left l.ip4_dashes.now l.ip6_dashes.now) left
     (l.invariant.marked asked) in
     shown_ip6 _ c.requires.marks marked (sym c.class-class.ensures ∙ c.in-Ip6.is)
-    (c.count-count.ensures.value ∙ c.categories.ensures.count) c.take_dashes-dashes-in-Ip6.ensures.front
+    c.shown_categories-count.ensures.count c.take_dashes-dashes-in-Ip6.ensures.front
     c.take_dashes-dashes-in-Ip6.ensures.none
+
+pub take_front-verdicts-requires : goal.take_front-verdicts-requires
+take_front-verdicts-requires g c =
+    let left = left_is c.args.packets.now c.loop-packet.packet-index c.packet-item.result
+    (omega (arith, c.loop-packet-test.true)) c.packet-item.is in
+    let answered = subst (λ (left : List FrameClass). AreAnswered c.args.form.now left c.loop-packet.ip4.now
+    c.loop-packet.ip6.now) left c.loop-packet.invariant.answered in
+    let front = verdicts_ip4 answered (sym c.class-class.ensures ∙ c.in-Ip4.is)
+    c.shown_categories-count.ensures.count in
+    front.0
+
+pub write_line-at-requires-clause-verdicts : goal.write_line-at-requires-clause-verdicts
+write_line-at-requires-clause-verdicts g c =
+    let left = left_is c.args.packets.now c.loop-packet.packet-index c.packet-item.result
+    (omega (arith, c.loop-packet-test.true)) c.packet-item.is in
+    let answered = subst (λ (left : List FrameClass). AreAnswered c.args.form.now left c.loop-packet.ip4.now
+    c.loop-packet.ip6.now) left c.loop-packet.invariant.answered in
+    let front = verdicts_ip4 answered (sym c.class-class.ensures ∙ c.in-Ip4.is)
+    c.shown_categories-count.ensures.count in
+    c.take_front-verdicts.ensures.front ∙ front.1
+
+pub take_front-verdicts-requires-in-Ip6 : goal.take_front-verdicts-requires-in-Ip6
+take_front-verdicts-requires-in-Ip6 g c =
+    let left = left_is c.args.packets.now c.loop-packet.packet-index c.packet-item.result
+    (omega (arith, c.loop-packet-test.true)) c.packet-item.is in
+    let answered = subst (λ (left : List FrameClass). AreAnswered c.args.form.now left c.loop-packet.ip4.now
+    c.loop-packet.ip6.now) left c.loop-packet.invariant.answered in
+    let front = verdicts_ip6 answered (sym c.class-class.ensures ∙ c.in-Ip6.is)
+    c.shown_categories-count.ensures.count in
+    front.0
+
+pub write_line-at-requires-in-Ip6-clause-verdicts : goal.write_line-at-requires-in-Ip6-clause-verdicts
+write_line-at-requires-in-Ip6-clause-verdicts g c =
+    let left = left_is c.args.packets.now c.loop-packet.packet-index c.packet-item.result
+    (omega (arith, c.loop-packet-test.true)) c.packet-item.is in
+    let answered = subst (λ (left : List FrameClass). AreAnswered c.args.form.now left c.loop-packet.ip4.now
+    c.loop-packet.ip6.now) left c.loop-packet.invariant.answered in
+    let front = verdicts_ip6 answered (sym c.class-class.ensures ∙ c.in-Ip6.is)
+    c.shown_categories-count.ensures.count in
+    c.take_front-verdicts-in-Ip6.ensures.front ∙ front.1
