@@ -1,4 +1,4 @@
-use Rattle.std.proofs.Common.{◌≡◌, ◌+◌, length, take, drop, Ok, Err, refl, sym, ap, ◌∙◌, arith}
+use Rattle.std.proofs.Common.{◌≡◌, ◌+◌, ◌∷◌, ◌++◌, List, subst, ℕ, length, take, drop, Ok, Err, refl, sym, ap, ◌∙◌, arith}
 use Rattle.std.proofs.lemmas.List.{take_rest, length-take, length-drop}
 use Rattle.header_extract.specs.declared.class.Class.TheVariants.{Ip4, Short}
 use Rattle.header_extract.specs.Extracted.{or_short}
@@ -21,7 +21,8 @@ returns-in-Some-packet_ports c =
       whole = c.if-packet-header_len.false;
     } in
     let found : ip4_ports packet (drop header_len packet) ≡ Ok c.in-Some-packet_ports.ports =
-    ap (ip4_ports packet) (sym (take_rest packet header_len)) ∙ c.packet_ports.ensures ∙ ap or_short c.in-Some-packet_ports.is in
+    ap (ip4_ports packet) (sym (take_rest packet header_len)) ∙ c.packet_ports.ensures
+    ∙ ap or_short c.in-Some-packet_ports.is in
     let len : 5 + length (take 8 (drop 12 packet)) ≡ 13 =
     omega (arith, length-take 8 (drop 12 packet), length-drop 12 packet, header.front) in
     let parts : KeyParts = record {
@@ -37,7 +38,9 @@ returns-in-Some-packet_ports c =
       both = take-both 4 12 packet;
       four = omega arith;
       whole = len;
-      written = c.write.ensures;
+      written = subst (λ (addresses : List ℕ). c.write.new.self.bytes
+          ≡ (protocol_of packet ∷ addresses ++ c.in-Some-packet_ports.ports)
+          ++ drop (5 + length addresses) c.args.key.now.bytes) c.copy_from_slice.ensures.after c.write.ensures;
     }
 
 pub returns-in-None : goal.returns-in-None
