@@ -1,6 +1,7 @@
 mod ToldLaws
 mod KeptLaws
 mod HeardLaws
+mod HeldLaws
 mod MadeLaws
 mod ReadingLaws
 mod WritingLaws

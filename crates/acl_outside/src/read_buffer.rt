@@ -51,6 +51,14 @@ impl ReadBuffer {
         self.start == self.end
     }
 
+    /// How many bytes are held.
+    #[inline]
+    pub(crate) fn len(&self) -> usize
+        ensures { result ≡ length self.now }
+    {
+        self.end - self.start
+    }
+
     /// Drops what was held, for a file of which nothing was read.
     pub(crate) fn clear(&mut self)
         ensures { self.new ≡ [] }

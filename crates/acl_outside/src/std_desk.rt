@@ -90,6 +90,48 @@ impl<'a, R: Files> StdDesk<'a, R> {
     }
 }
 
+impl<'a, R: Files> StdDesk<'a, R> {
+    ghost use Rattle.std.specs.Prelude.{◌≡◌, ◌⊎◌, [], Ok, is_ok, take, IsTrue, IfOk, OnErr, if◌then◌else◌};
+    ghost use Rattle.std.specs.Io.KnownBytes.{Consumes, IsAtEnd, Keeps};
+    ghost use Rattle.acl_outside.specs.Fault.{next_count};
+    ghost use Rattle.acl_outside.specs.Desk.{ReadsInto};
+    ghost use Rattle.acl_outside.specs.System.{shown_std_desk};
+
+    /// Reads as [`read`](Desk::read) does, also where fewer bytes are held than are asked for.
+    #[inline(never)]
+    fn read_more(&mut self, into: &mut [u8]) -> Result<usize, Failed>
+        requires { IsTrue self.old.reading }
+
+        ensures reads { ReadsInto into.old into.new (shown_std_desk self.old)
+            (shown_std_desk self.new) result }
+
+        // The bytes given are the next of the file, also across the buffer, and no byte of it is
+        // lost.
+        ensures next { IfOk result (λ count. Consumes self.old.remaining self.new.remaining
+            (take count into.new)) }
+        ensures at_end { result ≡ Ok 0 → (into.old ≡ []) ⊎ IsAtEnd self.new.remaining }
+        ensures kept { OnErr result (Keeps self.old.remaining self.new.remaining) }
+        // Each failure is a read fault, and nothing else is.
+        ensures read_faults { self.new.read_faults ≡
+            (if is_ok result then self.old.read_faults else next_count self.old.read_faults) }
+    {
+        let Some(file) = &mut self.opened else {
+            unreachable!()
+        };
+        match read_buffered(file, &mut self.buffer, into) {
+            Ok(count) => {
+                self.transcript.note_given(into.len(), &into[..count]);
+                Ok(count)
+            }
+            Err(Failed) => {
+                self.read_faults = self.read_faults.saturating_add(1);
+                self.transcript.note_failed(into.len());
+                Err(Failed)
+            }
+        }
+    }
+}
+
 impl<'a, R: Files> Desk for StdDesk<'a, R> {
     ghost use Rattle.std.specs.Prelude.{◌≡◌, ◌⊎◌, [], Ok, is_ok, take, IsTrue, IfOk, IfSome, OnErr, if◌then◌else◌};
     ghost use Rattle.std.specs.Io.KnownBytes.{Consumes, IsAtEnd, Keeps, WriteAppends};
@@ -138,19 +180,16 @@ impl<'a, R: Files> Desk for StdDesk<'a, R> {
         ensures read_faults { self.new.read_faults ≡
             (if is_ok result then self.old.read_faults else next_count self.old.read_faults) }
     {
-        let Some(file) = &mut self.opened else {
-            unreachable!()
-        };
-        match read_buffered(file, &mut self.buffer, into) {
-            Ok(count) => {
-                self.transcript.note_given(into.len(), &into[..count]);
-                Ok(count)
-            }
-            Err(Failed) => {
-                self.read_faults = self.read_faults.saturating_add(1);
-                self.transcript.note_failed(into.len());
-                Err(Failed)
-            }
+        // Mostly all that is asked for is held.
+        if into.len() <= self.buffer.len() {
+            let count = self.buffer.give(into);
+            self.transcript.note_given(into.len(), &into[..count]);
+            return Ok(count);
+        }
+        // Taken apart, the answer is settled in each arm, and isn't asked for again.
+        match self.read_more(into) {
+            Ok(count) => Ok(count),
+            Err(Failed) => Err(Failed),
         }
     }
 
@@ -238,7 +277,6 @@ impl<'a, R: Files> Desk for StdDesk<'a, R> {
 }
 
 /// Reads the next bytes of the file, by way of the buffer where that saves calls of the system.
-#[inline]
 fn read_buffered<F: Read>(
     file: &mut F,
     buffer: &mut ReadBuffer,

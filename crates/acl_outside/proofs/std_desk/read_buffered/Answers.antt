@@ -1,15 +1,8 @@
-use Rattle.std.proofs.Common.{ℕ, List, [], ◌++◌, take, drop, Option, Some, None, refl, sym, ◌∙◌, ap, append_assoc}
-use Rattle.std.proofs.lemmas.List.{take-append-drop}
+use Rattle.std.proofs.Common.{ℕ, List, [], take, drop, Option, Some, None, refl, ◌∙◌}
 use Rattle.std.specs.Io.KnownBytes.{Consumes, prepend_known}
+use Rattle.acl_outside.proofs.HeldLaws.{Consumes-held}
 use Rattle.acl_outside.proofs.std_desk.read_buffered.Goals as goal
 use Rattle.acl_outside.proofs.std_desk.read_buffered.Goals.{then-is_empty-2+else-into-ge-BUFFER_SIZE+in_ok-refill, else-is_empty-2}
-
--- the first bytes that are held are the first that are to come
-Consumes-held : (n : ℕ) (held : List ℕ) (left : Option (List ℕ)) →
-    Consumes (prepend_known held left) (prepend_known (drop n held) left) (take n held)
-Consumes-held n held None = tt
-Consumes-held n held (Some left) = ap (λ front. front ++ left) (sym (take-append-drop n held)) ∙
-    append_assoc (take n held) (drop n held) left
 
 -- what was read into an empty buffer comes first
 Consumes-refilled : (n : ℕ) (held : List ℕ) (old new : Option (List ℕ)) → Consumes old new held →
