@@ -1,9 +1,9 @@
 -- The jobs of a batch by their numbers, and those that were given out.
-use Rattle.std.proofs.Common.{◌≡◌, ℕ, ◌+◌, ◌*◌, ◌/◌, ◌%◌, ◌<◌, List, [], ◌∷◌, ◌++◌, sym, ap, ◌∙◌}
+use Rattle.std.proofs.Common.{◌≡◌, ℕ, ◌+◌, ◌*◌, ◌/◌, ◌%◌, ◌<◌, ◌≤◌, List, [], ◌∷◌, ◌++◌, sym, ap, ◌∙◌}
 use Rattle.std.proofs.Common.{arith, length, take, get_or, length-append, length-take, true, false, subst, inl, inr}
 use Rattle.std.specs.Prelude.{flat_map, Contains, slice_get, Some}
 use Rattle.std.specs.List.{range_with_len}
-use Rattle.std.proofs.Math.Nat.{div-lt_iff_lt-mul, mod-lt, div-add-mod}
+use Rattle.std.proofs.Math.Nat.{div-lt_iff_lt-mul, mod-lt, div-add-mod, mul-le-mul_right}
 use Rattle.std.proofs.lemmas.List.{length-map, get_or-take, length-take-le, take_more}
 use Rattle.std.proofs.lemmas.List.Elements.{Contains-append_left, Contains-push}
 use Rattle.std.proofs.lemmas.List.Concat.{get_or-flat_map}
@@ -162,3 +162,16 @@ module _ (table : TableView) (keys : List ℕ) where
       ))
       | inr other ↦ other
     ]
+
+-- The job of a key and a trie has a number below that of all jobs, and is found by it.
+pub number_there : (table : TableView) (keys : List ℕ) (key trie : ℕ) → key < keys_in table keys →
+    trie < length table.roots → (key * length table.roots + trie < job_count table keys)
+    × (job_at table (key * length table.roots + trie) ≡ record { key = key; trie = trie })
+number_there table keys key trie below within =
+    let m : ℕ = key * length table.roots + trie in
+    let next : key + 1 ≤ keys_in table keys = omega (arith, below) in
+    let few : m < job_count table keys = omega (arith, within, mul-le-mul_right (length table.roots) next) in (
+      few,
+      sym (job_is table keys m few (job_at table m))
+          ∙ numbered table (keys_in table keys) key trie (job_at table m) below within,
+    )

@@ -113,7 +113,7 @@ held_given table keys given slots flights job k held =
         in'.on_way.job
 
 -- where one job more is given out, a flight may still go on
-later : (table : TableView) (keys : List ℕ) (given : ℕ) → given < job_count table keys → (slot : Option Flight) →
+pub later : (table : TableView) (keys : List ℕ) (given : ℕ) → given < job_count table keys → (slot : Option Flight) →
     IfSome slot (IsInWalk table keys given) → IfSome slot (IsInWalk table keys (given + 1))
 later table keys given few None in' = in'
 later table keys given few (Some flight) in' = record {

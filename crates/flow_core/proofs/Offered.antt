@@ -6,6 +6,8 @@
 pub use Rattle.flow_core.proofs.Given.{jobs_len}
 -- the job of a number
 pub use Rattle.flow_core.proofs.Given.{job_got}
+-- the number of the job of a key and a trie
+pub use Rattle.flow_core.proofs.Given.{number_there}
 -- ---- a flight that may go on
 
 -- key_of_flight: its key is one of those that are there
@@ -55,6 +57,10 @@ pub use Rattle.flow_core.proofs.Enough.{turns-more, turns_are_slots}
 -- Takes: the next word of a flight is that of its walk: it names the walk's row, or the flight goes on in its walk
 -- takes: so it is of a flight in its walk
 pub use Rattle.flow_core.proofs.Flying.{Takes, takes}
+-- flies: the flight of a job that was just given out is in its walk
+pub use Rattle.flow_core.proofs.Flying.{flies}
+-- later: where one job more is given out, a flight in its walk still is
+pub use Rattle.flow_core.proofs.Kept.{later}
 -- ---- rows and verdicts
 
 -- Begins: the numbers of keys and tries that the code works out, and the rows that it made zero

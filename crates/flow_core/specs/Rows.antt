@@ -26,3 +26,7 @@ joined_into key row rows = set rows key (joined_row (slice_index_or rows key [])
 abbrev pub row_verdicts : ℕ → List ℕ → List ℕ
 row_verdicts count row = map (λ category. slice_index row category % userdatas)
     (range_with_len 0 count)
+
+-- the rows with a number written into a word of the key's row
+abbrev pub noted_in : ℕ → ℕ → ℕ → List (List ℕ) → List (List ℕ)
+noted_in key place number rows = set rows key (set (slice_index_or rows key []) place number)

@@ -36,4 +36,4 @@ mod scratch;
 pub use flight::{Flight, flight_of};
 pub use flows::{Flows, are_empty, arrive, byte_of};
 pub use schedule::{run_schedule, write_verdicts};
-pub use scratch::Scratch;
+pub use scratch::{Scratch, join_rows};

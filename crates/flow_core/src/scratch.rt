@@ -1,8 +1,9 @@
 //! Rows of the keys of a batch, which are used again from batch to batch.
 
-ghost use Rattle.std.specs.Prelude.{◌≡◌, ◌<◌, ◌≤◌, length, replicate, slice_get, Some, IfOk, true};
-ghost use Rattle.table_sizes.specs.Sizes.{max_keys};
-ghost use Rattle.flow_core.specs.Rows.{zero_row, cleared, joined_row, joined_into};
+ghost use Rattle.std.specs.Prelude.{◌≡◌, ◌<◌, ◌≤◌, length, replicate, set, slice_get, Some, IfOk, true};
+ghost use Rattle.std.specs.Prelude.{slice_index, slice_index_or, []};
+ghost use Rattle.table_sizes.specs.Sizes.{max_keys, row_len};
+ghost use Rattle.flow_core.specs.Rows.{zero_row, cleared, joined_row, joined_into, noted_in};
 
 use std::alloc::{AllocError, Global};
 use std::marker::Model;
@@ -51,7 +52,7 @@ fn is_zero(row: &[u64; ROW_LEN]) -> bool
 
 /// Makes each word of the row the greater of itself and that of the other row.
 #[inline]
-fn join_rows(row: &mut [u64; ROW_LEN], other: &[u64; ROW_LEN])
+pub fn join_rows(row: &mut [u64; ROW_LEN], other: &[u64; ROW_LEN])
     ensures { row.new ≡ joined_row row.old other.now }
 {
     // The first row of a key needs no comparing, and with one trie it is the only one.
@@ -109,5 +110,25 @@ impl Scratch {
         ensures { self.new ≡ joined_into k row.now self.old }
     {
         join_rows(&mut self.rows[k], row);
+    }
+
+    /// Writes a number into a word of the key's row. It takes no memory.
+    #[inline]
+    pub fn note(&mut self, k: usize, place: usize, number: u64)
+        requires key { k < length self.old }
+        requires place { place < row_len }
+        ensures rows { self.new ≡ noted_in k place number self.old }
+        ensures number { slice_index (slice_index_or self.new k []) place ≡ number }
+    {
+        self.rows[k][place] = number;
+    }
+
+    /// Makes the key's row this one. It takes no memory.
+    #[inline]
+    pub fn put(&mut self, k: usize, row: &[u64; ROW_LEN])
+        requires { k < length self.old }
+        ensures { self.new ≡ set self.old k row.now }
+    {
+        self.rows[k] = *row;
     }
 }

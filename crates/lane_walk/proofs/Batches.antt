@@ -1,12 +1,11 @@
 -- Turns of all lanes, from the first state on until the machine is done.
 use Rattle.std.proofs.Common.{◌≡◌, ℕ, zero, suc, ◌+◌, ◌*◌, ◌<◌, ◌≤◌, List, sym, ap, ◌∙◌, refl, arith}
-use Rattle.std.proofs.Common.{length, take, drop, get_or, true, false, inl, inr, subst, add-one, length-take}
-use Rattle.std.proofs.Common.{length-drop}
-use Rattle.std.specs.Prelude.{None, count_by, replicate}
+use Rattle.std.proofs.Common.{length, take, drop, get_or, true, false, inl, inr, subst, add-one}
+use Rattle.std.specs.Prelude.{None, count_by}
 use Rattle.std.specs.List.{range_with_len}
 use Rattle.std.proofs.Math.Nat.{mul-le-mul}
 use Rattle.std.proofs.lemmas.Bool.{cases_Bool, cases_lt, cases_eq}
-use Rattle.std.proofs.lemmas.List.{drop_at, length-replicate, take_all}
+use Rattle.std.proofs.lemmas.List.{length-replicate, take_all}
 use Rattle.std.proofs.lemmas.List.Elements.{All-from_get_or}
 use Rattle.std.proofs.lemmas.List.Sums.{count_by_more_yes, count_by_more_no, fold-append}
 use Rattle.table_sizes.specs.Groups.{max_key_len}
@@ -16,14 +15,14 @@ use Rattle.table_sizes.specs.Sizes.{max_keys}
 use Rattle.flat_table.specs.Batch.{batch_transitions, keys_in}
 use Rattle.flat_table.specs.Laws.{WalksGoStepByStep, WalksStay}
 use Rattle.flat_table.proofs.Offered.{batch_bound}
-use Rattle.flow_core.specs.Rows.{zero_row, cleared}
-use Rattle.flow_core.specs.Machine.{Machine, FlowState, state_of, first_state, flow_from_first, flow_run, flow_step}
+use Rattle.flow_core.specs.Machine.{Machine, FlowState, first_machine, first_state, flow_from_first, flow_run, flow_step}
 use Rattle.flow_core.specs.Machine.{is_done, most_steps, turns, IsRounds}
 use Rattle.flow_core.specs.Standing.{StandsOver}
 use Rattle.flow_core.specs.Invariant.{IsFlown}
-use Rattle.flow_core.specs.Laws.{AreBytes, AreJoined}
+use Rattle.flow_core.specs.Laws.{AreBytes}
 use Rattle.flow_core.proofs.Offered.{flown_step, from_first, run_width, same_width, turns-more, turns_are_slots}
-use Rattle.lane_walk.specs.Turn.{is_busy, busy_slots, flow_turn}
+use Rattle.lane_walk.specs.Turn.{AreAllNoted, AreNoted, IsAfterRun, is_busy, busy_slots, flow_turn}
+use Rattle.lane_walk.proofs.Noted.{all_noted, noted_none}
 use Rattle.lane_walk.proofs.Turns.{lane_more}
 use Rattle.lane_walk.proofs.Left.{words_left, step_left, other_slot, first_left, done_left}
 use Rattle.table_sizes.specs.Sizes.{max_tries}
@@ -106,50 +105,41 @@ module _ {table : TableView} {keys : List ℕ} (f : Flies table keys) where
 -- after n turns of a machine that began over the old rows: it is where they lead, and was not done before
 pub record Turned (table : TableView) (keys : List ℕ) (width n : ℕ) (machine : Machine) (old rows : List (List ℕ))
     (taken begun steps : ℕ) : Type 0 where
-  pub state : state_of table keys machine rows ≡ flow_from_first table keys width (turns width n)
+  pub machine_is : machine ≡ (flow_from_first table keys width (turns width n)).machine
   pub stands : StandsOver table keys machine (length rows)
+  pub len : length rows ≡ length old
   pub others : drop (keys_in table keys) rows ≡ drop (keys_in table keys) old
   pub least : (earlier : ℕ) → earlier < n →
       is_done (flow_from_first table keys width (turns width earlier)).machine ≡ false
-  pub taken_is : taken + words_left table keys (state_of table keys machine rows) ≡ batch_transitions table keys
+  pub taken_is : taken + words_left table keys (flow_from_first table keys width (turns width n))
+      ≡ batch_transitions table keys
   pub counted : steps ≡ begun + taken
+  pub noted : AreNoted table keys machine rows
 
 -- before the first turn a machine stands in its first state
-pub turned_none : {table : TableView} {keys : List ℕ} {width : ℕ} {machine : Machine} {old rows : List (List ℕ)}
-    {begun : ℕ} → state_of table keys machine rows ≡ first_state table keys width →
-    StandsOver table keys machine (length rows) → rows ≡ cleared (keys_in table keys) old →
-    Turned table keys width 0 machine old rows 0 begun begun
-turned_none {table = table} {keys = keys} {width = width} {old = old} is stands cleared_is = record {
-  state = is;
+pub turned_none : {table : TableView} {keys : List ℕ} {width : ℕ} {machine : Machine} {rows : List (List ℕ)}
+    {begun : ℕ} → machine ≡ first_machine table keys width → StandsOver table keys machine (length rows) →
+    Turned table keys width 0 machine rows rows 0 begun begun
+turned_none {table = table} {keys = keys} {width = width} {rows = rows} is stands = record {
+  machine_is = is;
   stands = stands;
-  others = ap (λ (xs : List (List ℕ)). drop (keys_in table keys) xs) cleared_is
-      ∙ drop_at (replicate (keys_in table keys) zero_row) (drop (keys_in table keys) old) (keys_in table keys)
-      (length-replicate (keys_in table keys) zero_row);
+  len = refl;
+  others = refl;
   least = λ earlier below. absurd (omega (arith, below));
-  taken_is = omega (arith, ap (λ (state : FlowState). words_left table keys state) is, first_left table keys width);
+  taken_is = omega (arith, first_left table keys width);
   counted = omega arith;
+  noted = subst (λ (machine : Machine). AreNoted table keys machine rows) (sym is) (noted_none table keys width rows);
 }
-
--- rows of which the first are so many, and the others stay, are as many as before
-same_len : (n : ℕ) (old new : List (List ℕ)) → length (take n new) ≡ n → drop n new ≡ drop n old →
-    n ≤ length old → length new ≡ length old
-same_len n old new front rest room = omega (
-  arith,
-  front,
-  room,
-  ap (λ (them : List (List ℕ)). length them) rest,
-  length-take n new,
-  length-drop n new,
-  length-drop n old,
-)
 
 -- what one turn did
 pub record Turns (table : TableView) (keys : List ℕ) (width : ℕ) (now next : Machine) (rows new : List (List ℕ))
     (busy : ℕ) : Type 0 where
-  pub state : state_of table keys next new ≡ flow_turn table keys width (state_of table keys now rows)
+  pub machine : IsAfterRun table keys now (range_with_len 0 width) next
   pub busy_is : busy ≡ busy_slots now
+  pub len : length new ≡ length rows
   pub others : drop (keys_in table keys) new ≡ drop (keys_in table keys) rows
   pub stands : StandsOver table keys next (length new)
+  pub noted : AreNoted table keys now rows → AreNoted table keys next new
 
 module _ {table : TableView} {keys : List ℕ} {width n : ℕ} {machine : Machine} {old rows : List (List ℕ)}
     {taken begun steps : ℕ} (f : Flies table keys) (t : Turned table keys width n machine old rows taken begun steps)
@@ -160,48 +150,53 @@ module _ {table : TableView} {keys : List ℕ} {width n : ℕ} {machine : Machin
     flown_here : IsFlown table keys here
     flown_here = from_first table keys f.stay f.sound f.bytes width (turns width n) (turns_are_slots width n)
 
-    flown_now : IsFlown table keys (state_of table keys machine rows)
-    flown_now = subst (λ (state : FlowState). IsFlown table keys state) (sym t.state) flown_here
-
-    width_now : width ≡ length machine.slots
-    width_now = sym (ap (λ (state : FlowState). length state.machine.slots) t.state
-        ∙ run_width table keys (first_state table keys width) (turns width n) ∙ length-replicate width None)
+    width_here : width ≡ length here.machine.slots
+    width_here = sym (run_width table keys (first_state table keys width) (turns width n)
+        ∙ length-replicate width None)
 
     one_turn : flow_from_first table keys width (turns width (n + 1)) ≡ flow_turn table keys width here
     one_turn =
         ap (λ (slots : List ℕ). flow_from_first table keys width slots) (turns-more width n)
         ∙ fold-append (flow_step table keys) (first_state table keys width) (turns width n) (range_with_len 0 width)
 
-    -- what the walks took with one more turn is no more than they take
-    pub taken_below : {next : Machine} {new : List (List ℕ)} {busy : ℕ} →
-        Turns table keys width machine next rows new busy → taken + busy ≤ batch_transitions table keys
-    taken_below u = omega (
+    -- a turn takes a word for each busy slot
+    left_here : {busy : ℕ} → busy ≡ busy_slots machine →
+        words_left table keys (flow_turn table keys width here) + busy ≡ words_left table keys here
+    left_here busy_is = omega (
       arith,
-      t.taken_is,
-      u.busy_is,
-      turn_left f (state_of table keys machine rows) width width_now flown_now,
+      busy_is,
+      ap busy_slots t.machine_is,
+      turn_left f here width width_here flown_here,
     )
+
+    -- what the walks took with one more turn is no more than they take
+    pub taken_below : {busy : ℕ} → busy ≡ busy_slots machine → taken + busy ≤ batch_transitions table keys
+    taken_below busy_is = omega (arith, t.taken_is, left_here busy_is)
 
     pub turned_more : {next : Machine} {new : List (List ℕ)} {busy new_steps : ℕ} → is_done machine ≡ false →
         Turns table keys width machine next rows new busy → new_steps ≡ steps + busy →
         Turned table keys width (n + 1) next old new (taken + busy) begun new_steps
     turned_more not_done u counted = record {
-      state = u.state ∙ ap (λ (state : FlowState). flow_turn table keys width state) t.state ∙ sym one_turn;
+      machine_is = u.machine here.rows
+          ∙ ap (λ (it : Machine). (flow_turn table keys width (record { machine = it; rows = here.rows })).machine)
+          t.machine_is
+          ∙ sym (ap (λ (state : FlowState). state.machine) one_turn);
       stands = u.stands;
+      len = u.len ∙ t.len;
       others = u.others ∙ t.others;
       least = λ earlier below. elim (cases_eq earlier n) [
         | inl same ↦ ap (λ (m : ℕ). is_done (flow_from_first table keys width (turns width m)).machine) same
-            ∙ ap (λ (state : FlowState). is_done state.machine) (sym t.state) ∙ not_done
+            ∙ ap is_done (sym t.machine_is) ∙ not_done
         | inr other ↦ t.least earlier (omega (arith, below, other))
       ];
       taken_is = omega (
         arith,
         t.taken_is,
-        u.busy_is,
-        turn_left f (state_of table keys machine rows) width width_now flown_now,
-        ap (λ (state : FlowState). words_left table keys state) u.state,
+        left_here u.busy_is,
+        ap (λ (state : FlowState). words_left table keys state) one_turn,
       );
       counted = omega (arith, counted, t.counted);
+      noted = u.noted t.noted;
     }
 
     -- where it is not done, the turns so far are fewer than are enough
@@ -212,7 +207,7 @@ module _ {table : TableView} {keys : List ℕ} {width n : ℕ} {machine : Machin
       | inr past ↦ elim (cases_eq rounds.0 n) [
         | inl same ↦ (
             let ends : is_done machine ≡ true =
-            ap (λ (state : FlowState). is_done state.machine) t.state
+            ap is_done t.machine_is
             ∙ ap (λ (m : ℕ). is_done (flow_from_first table keys width (turns width m)).machine) (sym same)
             ∙ rounds.1.ends in
             absurd (cc (ends, not_done))
@@ -224,7 +219,7 @@ module _ {table : TableView} {keys : List ℕ} {width n : ℕ} {machine : Machin
     -- where it is done, they are the rounds, and all words are taken
     pub rounds_are : is_done machine ≡ true → IsRounds table keys width n
     rounds_are done = record {
-      ends = ap (λ (state : FlowState). is_done state.machine) (sym t.state) ∙ done;
+      ends = ap is_done (sym t.machine_is) ∙ done;
       least = t.least;
     }
 
@@ -232,16 +227,12 @@ module _ {table : TableView} {keys : List ℕ} {width n : ℕ} {machine : Machin
     all_taken done = omega (
       arith,
       t.taken_is,
-      done_left table keys (state_of table keys machine rows) flown_now done,
+      done_left table keys here flown_here (ap is_done (sym t.machine_is) ∙ done),
     )
 
-    -- the rows are joined where those that the turns lead to are
-    pub joined_now : AreJoined table keys here.rows → AreJoined table keys (take (keys_in table keys) rows)
-    joined_now joined = subst (λ (them : List (List ℕ)). AreJoined table keys them)
-        (sym (ap (λ (state : FlowState). state.rows) t.state)) joined
-
-    pub rows_len : keys_in table keys ≤ length old → length rows ≡ length old
-    rows_len room = same_len (keys_in table keys) old rows flown_now.len t.others room
+    -- and all rows are noted
+    pub noted_all : is_done machine ≡ true → AreAllNoted table keys rows
+    noted_all done = all_noted t.noted t.stands.jobs done
 
 -- ---- the numbers fit
 

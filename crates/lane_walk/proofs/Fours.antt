@@ -1,7 +1,7 @@
 -- Four busy lanes that go on at once.
 use Rattle.std.proofs.Common.{◌≡◌, ℕ, ◌+◌, ◌<◌, ◌≤◌, List, sym, ap, ◌∙◌, refl, arith, lit<, length, subst, true, false}
 use Rattle.std.proofs.Common.{get_or, set, map, length-set, get_or-set_other, get_or-set_same}
-use Rattle.std.proofs.lemmas.List.Elements.{All-set}
+use Rattle.std.proofs.lemmas.List.Elements.{All-set, All-from_get_or}
 use Rattle.std.specs.Prelude.{All, slice_index, slice_index_or, None, Some}
 use Rattle.std.proofs.lemmas.List.{get_or-map}
 use Rattle.flat_table.proofs.Offered.{places_bound}
@@ -11,13 +11,16 @@ use Rattle.flat_table.specs.Sound.{sound_fault}
 use Rattle.flat_table.specs.Table.{TableView}
 use Rattle.flat_table.specs.Word.{is_match, is_node}
 use Rattle.flow_core.specs.declared.flight.Flight.{Flight}
+use Rattle.table_sizes.specs.Sizes.{max_tries, row_len}
 use Rattle.flow_core.specs.Machine.{Machine, moved_to, word_of}
-use Rattle.flow_core.specs.Standing.{LeadsOnward, StandsOver, IsOnWay, held_after, rows_after}
-use Rattle.flow_core.proofs.Offered.{key_of_flight}
-use Rattle.lane_walk.specs.Turn.{AreBusy, EndsOrLeads, HasCome, IsPlaceOf, StepsLanes, held_in, is_busy, no_one, rows_after_four}
-use Rattle.lane_walk.proofs.Held.{BusyLane, busy_lane, held_busy, landed, lane_lent, on_of, seen}
+use Rattle.flow_core.specs.Standing.{LeadsOnward, StandsOver, IsOnWay, held_after}
+use Rattle.flow_core.specs.Laws.{AreBytes}
+use Rattle.flow_core.proofs.Offered.{key_of_flight, trie_of_flight}
+use Rattle.lane_walk.specs.Turn.{AreBusy, EndsOrLeads, HasCome, HasRoom, IsPlaceOf, Notes, NotesFour, NotesLanes}
+use Rattle.lane_walk.specs.Turn.{held_in, is_busy, no_one}
+use Rattle.lane_walk.proofs.Held.{BusyLane, busy_lane, held_busy, lane_lent, on_of, seen}
 use Rattle.lane_walk.proofs.Landing.{Lands, each_of_four, lands, node_of, place_there, word_is, word_leads}
-use Rattle.lane_walk.proofs.Turns.{and_then}
+use Rattle.lane_walk.proofs.NoteSteps.{and_noted, landed_noted}
 
 -- a flight and its next word
 pub record Goes (table : TableView) (keys : List ℕ) (flight : Flight) (word : ℕ) : Type 0 where
@@ -55,43 +58,44 @@ come {table = table} before {rows = rows} onward key is =
       key = key;
     }
 
--- with as many rows it has come still
-pub still : {table : TableView} {flight : Flight} {rows new : ℕ} → HasCome table flight rows → new ≡ rows →
-    HasCome table flight new
-still {table = table} {flight = flight} has is = subst (λ (n : ℕ). HasCome table flight n) (sym is) has
+-- there is a place for the note of a flight that has come to its next word
+pub room_for : {word : ℕ} (before : Flight) {next : Flight} {rows : ℕ} →
+    (is_match word ≡ false → is_node word ≡ true) → before.key < rows → before.trie < row_len →
+    next ≡ moved_to word before → HasRoom next rows
+room_for before {rows = rows} lawful key trie is =
+    subst (λ (flight : Flight). HasRoom flight rows) (sym is) record { lawful = lawful; key = key; trie = trie; }
 
--- each of four was asked
-pub four_joined : (table : TableView) (flights : List Flight) (first : ℕ) (rows : List (List ℕ))
-    {one two three four : List (List ℕ)} →
-    one ≡ rows_after table (get_or flights first no_one) (get_or flights first no_one).word rows →
-    two ≡ rows_after table (get_or flights (first + 1) no_one) (get_or flights (first + 1) no_one).word one →
-    three ≡ rows_after table (get_or flights (first + 2) no_one) (get_or flights (first + 2) no_one).word two →
-    four ≡ rows_after table (get_or flights (first + 3) no_one) (get_or flights (first + 3) no_one).word three →
-    four ≡ rows_after_four table flights first rows
-four_joined table flights first rows is_one is_two is_three is_four =
-    let after = λ (k : ℕ) (them : List (List ℕ)).
-    rows_after table (get_or flights (first + k) no_one) (get_or flights (first + k) no_one).word them in
-    is_four ∙ ap (after 3) (is_three ∙ ap (after 2) (is_two ∙ ap (after 1) is_one))
+-- with as many rows there is still a place
+pub still : {flight : Flight} {rows new : ℕ} → HasRoom flight rows → new ≡ rows → HasRoom flight new
+still {flight = flight} has is = subst (λ (n : ℕ). HasRoom flight n) (sym is) has
+
+-- what is noted of a flight at its next word is what is noted of the flight and the word
+pub noted_as : {flight next : Flight} {word : ℕ} {old new : List (List ℕ)} → next ≡ moved_to word flight →
+    Notes next next.word old new → Notes flight word old new
+noted_as {word = word} {old = old} {new = new} is n =
+    let moved = subst (λ (it : Flight). Notes it it.word old new) is n in
+    record { rows = moved.rows; number = moved.number; }
 
 -- ---- one lane
 
 module _ {table : TableView} {keys : List ℕ} {jobs given : ℕ} where
   -- a lane goes on to its word
-  one_goes : (flights : List Flight) {rows : List (List ℕ)} (lane : ℕ) →
+  one_goes : (flights : List Flight) {rows new : List (List ℕ)} (lane : ℕ) →
       StandsOver table keys (seen jobs given flights) (length rows) → lane < length flights →
       {flight : Flight} {word : ℕ} → get_or flights lane no_one ≡ flight → Goes table keys flight word →
-      {next : Flight} → next ≡ moved_to word (get_or flights lane no_one) →
-      StepsLanes table keys (seen jobs given flights) rows lane 1 (seen jobs given (set flights lane next))
-      (rows_after table flight word rows) 1
-  one_goes flights {rows = rows} lane stands there {flight = flight} {word = word} same g {next = next} next_is =
+      {next : Flight} → next ≡ moved_to word (get_or flights lane no_one) → Notes flight word rows new →
+      sound_fault table ≡ None → AreBytes keys →
+      NotesLanes table keys (seen jobs given flights) rows lane 1 (seen jobs given (set flights lane next)) new 1
+  one_goes flights {rows = rows} {new = new} lane stands there {flight = flight} {word = word} same g {next = next}
+      next_is notes sound bytes =
       let holds : get_or (map held_in flights) lane None ≡ Some flight =
       get_or-map held_in flights lane no_one None there ∙ ap held_in same ∙ held_busy flight g.on in
       let at : next ≡ moved_to word flight = next_is ∙ ap (λ (f : Flight). moved_to word f) same in
-      landed flights (lane_lent flights {before = seen jobs given flights} refl stands there refl) next holds
+      landed_noted flights (lane_lent flights {before = seen jobs given flights} refl stands there refl) next holds
       (ap is_busy holds)
       (ap held_in at ∙ ap (λ (w : ℕ). held_after flight w) g.word_is)
-      (ap (λ (w : ℕ). rows_after table flight w rows) g.word_is)
-      (subst (LeadsOnward table flight) g.word_is g.onward)
+      (subst (λ (w : ℕ). Notes flight w rows new) g.word_is notes)
+      (subst (LeadsOnward table flight) g.word_is g.onward) sound bytes
 
 -- ---- four lanes
 
@@ -184,6 +188,11 @@ module _ {table : TableView} {keys : List ℕ} {jobs given : ℕ} (flights : Lis
   pub four_keys : (k : ℕ) → k < 4 → (get_or flights (first + k) no_one).key < length rows
   four_keys k h = omega (arith, key_of_flight (lands_at k h).on_way, a.stands.fits.room)
 
+  -- and its trie a word in it
+  pub four_tries : length table.roots ≤ max_tries → (k : ℕ) → k < 4 →
+      (get_or flights (first + k) no_one).trie < row_len
+  four_tries few k h = omega (arith, trie_of_flight (lands_at k h).on_way, few)
+
   -- ---- when they have gone on
   module _ (words : List ℕ)
       (goes : (k : ℕ) → k < 4 → Goes table keys (get_or flights (first + k) no_one) (slice_index words k))
@@ -272,49 +281,54 @@ module _ {table : TableView} {keys : List ℕ} {jobs given : ℕ} (flights : Lis
         (All-set EndsOrLeads flights first one
         (lawful (get_or flights first no_one) (goes 0 (lit< tt)).onward is_one) all)))
 
-    -- each of the four flights has come to a word of the table
-    pub four_come : (k : ℕ) → k < 4 → HasCome table (get_or f4 (first + k) no_one) (length rows)
-    four_come k h = come (get_or flights (first + k) no_one) (goes k h).onward (four_keys k h) (four_at k h)
+    -- there is a place for the note of each of the four flights
+    pub four_room : length table.roots ≤ max_tries → (k : ℕ) → k < 4 →
+        HasRoom (get_or f4 (first + k) no_one) (length rows)
+    four_room few k h = room_for (get_or flights (first + k) no_one)
+        (λ on. leads (goes k h).onward on) (four_keys k h) (four_tries few k h) (four_at k h)
 
     -- where none of them came to a match, the rows stay
-    pub none_end : ((k : ℕ) → k < 4 → is_match (slice_index words k) ≡ false) →
-        rows ≡ rows_after_four table f4 first rows
-    none_end none =
-        let at = λ (w : Flight). is_match w.word in
-        let on1 : is_match (get_or f4 first no_one).word ≡ false = ap at first_at ∙ none 0 (lit< tt) in
-        let on2 : is_match (get_or f4 (first + 1) no_one).word ≡ false = ap at second_at ∙ none 1 (lit< tt) in
-        let on3 : is_match (get_or f4 (first + 2) no_one).word ≡ false = ap at third_at ∙ none 2 (lit< tt) in
-        let on4 : is_match (get_or f4 (first + 3) no_one).word ≡ false = ap at fourth_at ∙ none 3 (lit< tt) in
-        rw (on1, on2, on3, on4) refl
+    pub none_end : ((k : ℕ) → k < 4 → is_match (slice_index words k) ≡ false) → NotesFour f4 first rows rows
+    none_end none = record {
+      one = rows;
+      two = rows;
+      three = rows;
+      first_is = nothing (get_or f4 first no_one) (ap (λ (w : Flight). is_match w.word) first_at ∙ none 0 (lit< tt));
+      second_is = nothing (get_or f4 (first + 1) no_one)
+          (ap (λ (w : Flight). is_match w.word) second_at ∙ none 1 (lit< tt));
+      third_is = nothing (get_or f4 (first + 2) no_one)
+          (ap (λ (w : Flight). is_match w.word) third_at ∙ none 2 (lit< tt));
+      fourth_is = nothing (get_or f4 (first + 3) no_one)
+          (ap (λ (w : Flight). is_match w.word) fourth_at ∙ none 3 (lit< tt));
+    }
+      where
+        nothing : (flight : Flight) → is_match flight.word ≡ false → Notes flight flight.word rows rows
+        nothing flight on = record { rows = rw on refl; number = λ match. absurd (cc (match, on)); }
 
     -- and each was stepped
-    pub four_go : {new : List (List ℕ)} → new ≡ rows_after_four table f4 first rows →
-        StepsLanes table keys before rows first 4 (seen jobs given f4) new 4
-    four_go {new = new} new_is =
+    pub four_go : {new : List (List ℕ)} → NotesFour f4 first rows new →
+        NotesLanes table keys before rows first 4 (seen jobs given f4) new 4
+    four_go {new = new} notes =
         let here : first + 0 ≡ first = omega arith in
-        let came = λ (flight : Flight) (them : List (List ℕ)). rows_after table flight flight.word them in
+        let bytes : AreBytes keys = All-from_get_or (λ byte. byte < 256) keys 0 (λ i below. a.bytes i) in
         let stands : StandsOver table keys (seen jobs given flights) (length rows) =
         subst (λ (machine : Machine). StandsOver table keys machine (length rows)) (sym a.view) a.stands in
         let goes_first : Goes table keys (get_or flights first no_one) (slice_index words 0) =
         subst (λ (lane : ℕ). Goes table keys (get_or flights lane no_one) (slice_index words 0)) here
         (goes 0 (lit< tt)) in
-        let r1 : List (List ℕ) = rows_after table (get_or flights first no_one) (slice_index words 0) rows in
-        let r2 : List (List ℕ) = rows_after table (get_or flights (first + 1) no_one) (slice_index words 1) r1 in
-        let r3 : List (List ℕ) = rows_after table (get_or flights (first + 2) no_one) (slice_index words 2) r2 in
-        let r4 : List (List ℕ) = rows_after table (get_or flights (first + 3) no_one) (slice_index words 3) r3 in
-        let s1 : StepsLanes table keys (seen jobs given flights) rows first 1 (seen jobs given f1) r1 1 =
-        one_goes flights first stands (omega (arith, a.room)) refl goes_first is_one in
-        let s2 : StepsLanes table keys (seen jobs given flights) rows first 2 (seen jobs given f2) r2 2 =
-        and_then s1 (one_goes f1 (first + 1) s1.stands (omega (arith, a.room, n1))
-        (second_is flights first one two three) (goes 1 (lit< tt)) is_two) in
-        let s3 : StepsLanes table keys (seen jobs given flights) rows first 3 (seen jobs given f3) r3 3 =
-        and_then s2 (one_goes f2 (first + 2) s2.stands (omega (arith, a.room, n2))
-        (third_is flights first one two three) (goes 2 (lit< tt)) is_three) in
-        let s4 : StepsLanes table keys (seen jobs given flights) rows first 4 (seen jobs given f4) r4 4 =
-        and_then s3 (one_goes f3 (first + 3) s3.stands (omega (arith, a.room, n3))
-        (fourth_is flights first one two three) (goes 3 (lit< tt)) is_four) in
-        let all : rows_after_four table f4 first rows ≡ r4 =
-        λ i. came (fourth_at i) (came (third_at i) (came (second_at i) (came (first_at i) rows))) in
-        subst (λ (them : List (List ℕ)). StepsLanes table keys before rows first 4 (seen jobs given f4) them 4)
-        (sym (new_is ∙ all))
-        (subst (λ (machine : Machine). StepsLanes table keys machine rows first 4 (seen jobs given f4) r4 4) a.view s4)
+        let s1 : NotesLanes table keys (seen jobs given flights) rows first 1 (seen jobs given f1) notes.one 1 =
+        one_goes flights first stands (omega (arith, a.room)) refl goes_first is_one
+        (noted_as first_at notes.first_is) a.sound bytes in
+        let s2 : NotesLanes table keys (seen jobs given flights) rows first 2 (seen jobs given f2) notes.two 2 =
+        and_noted s1 (one_goes f1 (first + 1) s1.stands (omega (arith, a.room, n1))
+        (second_is flights first one two three) (goes 1 (lit< tt)) is_two (noted_as second_at notes.second_is)
+        a.sound bytes) in
+        let s3 : NotesLanes table keys (seen jobs given flights) rows first 3 (seen jobs given f3) notes.three 3 =
+        and_noted s2 (one_goes f2 (first + 2) s2.stands (omega (arith, a.room, n2))
+        (third_is flights first one two three) (goes 2 (lit< tt)) is_three (noted_as third_at notes.third_is)
+        a.sound bytes) in
+        let s4 : NotesLanes table keys (seen jobs given flights) rows first 4 (seen jobs given f4) new 4 =
+        and_noted s3 (one_goes f3 (first + 3) s3.stands (omega (arith, a.room, n3))
+        (fourth_is flights first one two three) (goes 3 (lit< tt)) is_four (noted_as fourth_at notes.fourth_is)
+        a.sound bytes) in
+        subst (λ (machine : Machine). NotesLanes table keys machine rows first 4 (seen jobs given f4) new 4) a.view s4

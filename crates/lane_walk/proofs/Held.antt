@@ -48,7 +48,7 @@ no_flights flight none (suc n) = λ i. none i ∷ no_flights flight none n i
 -- ---- one lane
 
 -- a lane alone counts as one busy slot exactly if it is busy
-one_busy : (slots : List (Option Flight)) (lane : ℕ) → lane < length slots →
+pub one_busy : (slots : List (Option Flight)) (lane : ℕ) → lane < length slots →
     count_by is_busy (take 1 (drop lane slots)) ≡ cond (is_busy (get_or slots lane None)) 1 0
 one_busy [] lane within = absurd (omega (arith, within))
 one_busy (slot ∷ slots) zero within = elim (cases_Bool (is_busy slot)) [
@@ -164,11 +164,11 @@ busy_lane flights {lane = lane} is stands within told busy d =
 module _ {table : TableView} {keys : List ℕ} {jobs given : ℕ} (flights : List Flight) {before : Machine}
     {rows : List (List ℕ)} {lane : ℕ} (l : IsLent table keys (seen jobs given flights) before rows lane) where
   -- the lane is one of the slots
-  there : lane < length before.slots
+  pub there : lane < length before.slots
   there = omega (arith, l.within, ap (λ (machine : Machine). length machine.slots) l.is)
 
   -- the lanes after it keep what they kept
-  later_stay : (next : Flight) →
+  pub later_stay : (next : Flight) →
       drop (lane + 1) (map held_in (set flights lane next)) ≡ drop (lane + 1) before.slots
   later_stay next =
       ap (λ (slots : List (Option Flight)). drop (lane + 1) slots) (map-set held_in flights lane next)
@@ -203,12 +203,12 @@ module _ {table : TableView} {keys : List ℕ} {jobs given : ℕ} (flights : Lis
 
   module _ (empty : is_busy (get_or before.slots lane None) ≡ false) where
     -- an empty lane holds no flight
-    holds_none : get_or (map held_in flights) lane None ≡ None
+    pub holds_none : get_or (map held_in flights) lane None ≡ None
     holds_none = nothing (get_or (map held_in flights) lane None)
         (ap (λ (machine : Machine). is_busy (get_or machine.slots lane None)) l.is ∙ empty)
 
     -- a flight that begins the next job is on its way
-    job_on_way : (flight : Flight) → flight ≡ begun table (job_at table given) → given < jobs →
+    pub job_on_way : (flight : Flight) → flight ≡ begun table (job_at table given) → given < jobs →
         sound_fault table ≡ None → WalksStay → IsOnWay table keys (given + 1) flight
     job_on_way flight flight_is few sound stay =
         let P = λ (held : Option Flight). IfSome held (IsOnWay table keys (given + 1)) in

@@ -2,6 +2,9 @@ pub mod Batches
 pub mod Counts
 pub mod Fours
 pub mod Held
+pub mod Joining
 pub mod Landing
 pub mod Left
+pub mod Noted
+pub mod NoteSteps
 pub mod Turns

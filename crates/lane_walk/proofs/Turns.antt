@@ -21,7 +21,7 @@ lane_more table keys state n =
     ∙ ap (λ (lane : ℕ). flow_step table keys (flow_run table keys state (range_with_len 0 n)) lane) (omega arith)
 
 -- how many of some elements pass, and then of some more
-counted : {X : Type 0} (p : X → Bool) (a b from : ℕ) (xs : List X) →
+pub counted : {X : Type 0} (p : X → Bool) (a b from : ℕ) (xs : List X) →
     count_by p (take (a + b) (drop from xs))
     ≡ count_by p (take a (drop from xs)) + count_by p (take b (drop (from + a) xs))
 counted p a b from xs =

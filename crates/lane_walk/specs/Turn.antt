@@ -1,13 +1,19 @@
 -- A turn of all slots of a flow machine, which a walk by lanes takes at once.
-use Rattle.std.specs.Prelude.{◌≡◌, ℕ, ◌+◌, ◌<◌, ◌⊎◌, List, count_by, not, Option, Some, None, Bool, IfSome}
+use Rattle.std.specs.Prelude.{◌≡◌, ℕ, ◌+◌, ◌<◌, ◌⊎◌, List, [], count_by, not, Option, Some, None, Bool}
 use Rattle.std.specs.Prelude.{length, take, drop, if◌then◌else◌, true, false, slice_index_or}
+use Rattle.std.specs.Prelude.{slice_index, All, IfSome, map}
 use Rattle.std.specs.List.{range_with_len}
 use Rattle.flat_table.specs.Table.{TableView}
 use Rattle.flow_core.specs.declared.flight.Flight.{Flight}
 use Rattle.flat_table.specs.Word.{index_of, is_match, is_node, next_place}
-use Rattle.flat_table.specs.Batch.{keys_in}
+use Rattle.table_sizes.specs.Sizes.{row_len}
+use Rattle.flat_table.specs.Walk.{greatest, walk_row}
+use Rattle.flat_table.specs.Batch.{key_at, keys_in}
+use Rattle.flow_core.specs.Rows.{noted_in}
+use Rattle.flow_core.specs.Jobs.{Job, job_at}
 use Rattle.flow_core.specs.Machine.{Machine, FlowState, state_of, flow_run, is_empty, byte_of}
-use Rattle.flow_core.specs.Standing.{StandsOver, rows_after}
+use Rattle.flow_core.specs.Standing.{StandsOver, job_of}
+use Rattle.flow_core.specs.Invariant.{IsInWalk}
 
 -- how many lanes there may be
 abbrev pub IsLanes : ℕ → Type 0
@@ -65,15 +71,11 @@ pub record HasCome (table : TableView) (flight : Flight) (rows : ℕ) : Type 0 w
   pub row : is_match flight.word ≡ true → index_of flight.word < length table.rows
   pub key : flight.key < rows
 
--- the rows after four flights, from one on and in order, came to their words
-abbrev pub rows_after_four : TableView → List Flight → ℕ → List (List ℕ) → List (List ℕ)
-rows_after_four table flights first rows =
-    let came = λ (flight : Flight) (them : List (List ℕ)).
-    rows_after table flight flight.word them in
-    came (slice_index_or flights (first + 3) no_one)
-    (came (slice_index_or flights (first + 2) no_one)
-    (came (slice_index_or flights (first + 1) no_one)
-    (came (slice_index_or flights first no_one) rows)))
+-- the flight came to a word that a lane may keep, and there is a place for the note of its row
+pub record HasRoom (flight : Flight) (rows : ℕ) : Type 0 where
+  pub lawful : EndsOrLeads flight
+  pub key : flight.key < rows
+  pub trie : flight.trie < row_len
 
 -- so many slots were stepped, from one on and in order, and the later ones hold what they held
 pub record StepsLanes (table : TableView) (keys : List ℕ) (before : Machine) (old : List (List ℕ))
@@ -84,3 +86,87 @@ pub record StepsLanes (table : TableView) (keys : List ℕ) (before : Machine) (
   pub others : drop (keys_in table keys) rows ≡ drop (keys_in table keys) old
   pub later : drop (from + count) now.slots ≡ drop (from + count) before.slots
   pub busy_is : busy ≡ count_by is_busy (take count (drop from before.slots))
+
+-- ---- lanes that note the rows which their walks reach
+
+-- a job is on its way in a slot
+abbrev pub IsHeldIn : List (Option Flight) → Job → Type 0
+IsHeldIn slots job = (lane : ℕ) × (flight : Flight)
+    × (slice_index_or slots lane None ≡ Some flight) × (job_of flight ≡ job)
+
+-- the number of the row that its walk reaches is noted: in the row of its key, as the word of its
+-- trie; and there is such a row
+abbrev pub IsNotedAs : TableView → List ℕ → List (List ℕ) → Job → Type 0
+IsNotedAs table keys rows job = (slice_index (slice_index_or rows job.key []) job.trie
+    ≡ walk_row table job.trie (key_at table keys job.key))
+    × (walk_row table job.trie (key_at table keys job.key) < length table.rows)
+
+-- each busy slot holds a walk as far as it went, and of each job given out it is on its way, or its
+-- row is noted
+pub record AreNoted (table : TableView) (keys : List ℕ) (machine : Machine) (rows : List (List ℕ))
+    : Type 0 where
+  pub flights : All (λ held. IfSome held (IsInWalk table keys machine.given)) machine.slots
+  pub each : (n : ℕ) → n < machine.given →
+      IsHeldIn machine.slots (job_at table n) ⊎ IsNotedAs table keys rows (job_at table n)
+
+-- the rows after a flight's next word: after a match its row is noted
+abbrev pub notes_after : Flight → ℕ → List (List ℕ) → List (List ℕ)
+notes_after flight word rows = if is_match word
+    then noted_in flight.key flight.trie (index_of word) rows else rows
+
+-- so they are, and after a match the number stands there
+pub record Notes (flight : Flight) (word : ℕ) (old new : List (List ℕ)) : Type 0 where
+  pub rows : new ≡ notes_after flight word old
+  pub number : is_match word ≡ true →
+      slice_index (slice_index_or new flight.key []) flight.trie ≡ index_of word
+
+-- four flights, from one on and in order, came to their words
+pub record NotesFour (flights : List Flight) (first : ℕ) (old new : List (List ℕ)) : Type 0 where
+  pub one : List (List ℕ)
+  pub two : List (List ℕ)
+  pub three : List (List ℕ)
+  pub first_is : Notes (slice_index_or flights first no_one)
+      (slice_index_or flights first no_one).word old one
+  pub second_is : Notes (slice_index_or flights (first + 1) no_one)
+      (slice_index_or flights (first + 1) no_one).word one two
+  pub third_is : Notes (slice_index_or flights (first + 2) no_one)
+      (slice_index_or flights (first + 2) no_one).word two three
+  pub fourth_is : Notes (slice_index_or flights (first + 3) no_one)
+      (slice_index_or flights (first + 3) no_one).word three new
+
+-- the machine after a step of each of so many slots, in order, whatever the rows of its state are
+abbrev pub IsAfterRun : TableView → List ℕ → Machine → List ℕ → Machine → Type 0
+IsAfterRun table keys before slots now = (rows : List (List ℕ)) → now
+    ≡ (flow_run table keys (record { machine = before; rows = rows }) slots).machine
+
+-- So many slots were stepped, from one on and in order, and the later ones hold what they held. The
+-- rows of the walks that ended are noted.
+pub record NotesLanes (table : TableView) (keys : List ℕ) (before : Machine)
+    (old : List (List ℕ)) (from count : ℕ) (now : Machine) (rows : List (List ℕ)) (busy : ℕ)
+    : Type 0 where
+  pub machine : IsAfterRun table keys before (range_with_len from count) now
+  pub stands : StandsOver table keys now (length rows)
+  pub len : length rows ≡ length old
+  pub others : drop (keys_in table keys) rows ≡ drop (keys_in table keys) old
+  pub later : drop (from + count) now.slots ≡ drop (from + count) before.slots
+  pub busy_is : busy ≡ count_by is_busy (take count (drop from before.slots))
+  pub noted : AreNoted table keys before old → AreNoted table keys now rows
+
+-- of each key and trie the row is noted, and it is one of the table
+pub record AreAllNoted (table : TableView) (keys : List ℕ) (rows : List (List ℕ)) : Type 0 where
+  pub each : (key trie : ℕ) → key < keys_in table keys → trie < length table.roots →
+      slice_index (slice_index_or rows key []) trie ≡ walk_row table trie (key_at table keys key)
+  pub there : (key trie : ℕ) → key < keys_in table keys → trie < length table.roots →
+      slice_index (slice_index_or rows key []) trie < length table.rows
+
+-- each word of the row is the greatest over the rows of the numbers in the first words
+pub record IsRowOf (table : TableView) (noted : List ℕ) (tries : ℕ) (row : List ℕ) : Type 0 where
+  pub len : length row ≡ row_len
+  pub words : (category : ℕ) → category < row_len → slice_index row category
+      ≡ greatest (map (λ trie. slice_index
+      (slice_index_or table.rows (slice_index noted trie) []) category) (range_with_len 0 tries))
+
+-- the first rows are so made of the old ones
+abbrev pub AreRowsOf : TableView → List (List ℕ) → ℕ → List (List ℕ) → Type 0
+AreRowsOf table old keys new = (k : ℕ) → k < keys →
+    IsRowOf table (slice_index_or old k []) (length table.roots) (slice_index_or new k [])

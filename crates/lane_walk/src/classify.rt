@@ -1,6 +1,6 @@
 //! The verdicts of a batch, by turns of all lanes.
 
-ghost use Rattle.std.specs.Prelude.{◌≡◌, ◌+◌, ◌*◌, ◌≤◌, ◌==◌, length, map, take, drop, not, slice_index};
+ghost use Rattle.std.specs.Prelude.{◌≡◌, ◌+◌, ◌*◌, ◌≤◌, ◌==◌, length, map, take, drop, not, slice_index, true};
 ghost use Rattle.std.specs.List.{range_with_len};
 ghost use Rattle.table_sizes.specs.Sizes.{row_len};
 ghost use Rattle.flat_table.specs.Batch.{LengthsFit, keys_in, batch_verdicts};
@@ -10,9 +10,10 @@ ghost use Rattle.flow_core.specs.Standing.{BatchFits};
 ghost use Rattle.flow_core.specs.Laws.{AreJoined};
 ghost use Rattle.scalar_walk.specs.Lanes.{pieces_below};
 ghost use Rattle.scalar_walk.specs.Rows.{row_winners, batch_winners};
-ghost use Rattle.lane_walk.specs.Turn.{IsLanes};
+ghost use Rattle.lane_walk.specs.Turn.{AreAllNoted, IsLanes};
 
 use crate::lanes::LaneFlows;
+use crate::rows::join_noted;
 use flat_table::laws::walks_go_step_by_step;
 use flat_table::{Steps, Table};
 use flow_core::laws::{every_schedule, stay_in};
@@ -40,8 +41,66 @@ fn raise_by<L: Ledger>(steps: &mut Steps<L>, count: u32)
     }
 }
 
-/// Turns of a machine of `W` lanes from its beginning on, until it is done. The rows of the keys
-/// are then joined, and all other rows of the scratch stay.
+/// Turns of a machine of `W` lanes from its beginning on, until it is done. The row that each walk
+/// reaches is then noted in the row of its key, and all other rows of the scratch stay.
+#[inline]
+fn fly_of<const W: usize, const ONE: bool, L: Ledger>(
+    table: &Table,
+    keys: &[u8],
+    scratch: &mut Scratch,
+    steps: &mut Steps<L>,
+) -> Flown
+    requires one { ONE ≡ true → length table.now.roots ≡ 1 }
+    requires lanes { IsLanes W }
+    requires fits { BatchFits table.now keys.now (length scratch.old) }
+    ensures taken { result.taken ≡ batch_transitions table.now keys.now }
+    ensures steps { steps.new ≡ steps.old + batch_transitions table.now keys.now }
+    ensures turns { IsRounds table.now keys.now W result.turns }
+    ensures notes { AreAllNoted table.now keys.now scratch.new }
+    ensures others { drop (keys_in table.now keys.now) scratch.new
+        ≡ drop (keys_in table.now keys.now) scratch.old }
+    ensures len { length scratch.new ≡ length scratch.old }
+{
+    stay_in(table);
+    every_schedule();
+    walks_go_step_by_step();
+    let mut lanes = LaneFlows::<W>::begin_noting(table, keys);
+    let (mut taken, mut turns) = (0u64, 0u64);
+    while !lanes.done() {
+        let busy = lanes.turn_noting::<ONE>(table, keys, scratch);
+        raise_by(steps, busy);
+        taken += u64::from(busy);
+        turns += 1;
+    }
+    Flown { taken, turns }
+}
+
+/// The turns over a table of one trie, or over any.
+fn note_walks<const W: usize, L: Ledger>(
+    table: &Table,
+    keys: &[u8],
+    scratch: &mut Scratch,
+    steps: &mut Steps<L>,
+) -> Flown
+    requires lanes { IsLanes W }
+    requires fits { BatchFits table.now keys.now (length scratch.old) }
+    ensures taken { result.taken ≡ batch_transitions table.now keys.now }
+    ensures steps { steps.new ≡ steps.old + batch_transitions table.now keys.now }
+    ensures turns { IsRounds table.now keys.now W result.turns }
+    ensures notes { AreAllNoted table.now keys.now scratch.new }
+    ensures others { drop (keys_in table.now keys.now) scratch.new
+        ≡ drop (keys_in table.now keys.now) scratch.old }
+    ensures len { length scratch.new ≡ length scratch.old }
+{
+    if table.tries() == 1 {
+        fly_of::<W, true, L>(table, keys, scratch, steps)
+    } else {
+        fly_of::<W, false, L>(table, keys, scratch, steps)
+    }
+}
+
+/// The turns of a machine of `W` lanes, after which the rows of the keys are joined, and all other
+/// rows of the scratch stay.
 fn fly<const W: usize, L: Ledger>(
     table: &Table,
     keys: &[u8],
@@ -62,16 +121,9 @@ fn fly<const W: usize, L: Ledger>(
 {
     stay_in(table);
     every_schedule();
-    walks_go_step_by_step();
-    let mut lanes = LaneFlows::<W>::begin(table, keys, scratch);
-    let (mut taken, mut turns) = (0u64, 0u64);
-    while !lanes.done() {
-        let busy = lanes.turn(table, keys, scratch);
-        raise_by(steps, busy);
-        taken += u64::from(busy);
-        turns += 1;
-    }
-    Flown { taken, turns }
+    let flown = note_walks::<W, L>(table, keys, scratch, steps);
+    join_noted(table, scratch, keys.len() / table.key_len());
+    flown
 }
 
 /// Writes the verdicts of the keys of a batch by a walk of `W` lanes, 4, 8 or 16, and says how many

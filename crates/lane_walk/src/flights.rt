@@ -4,11 +4,13 @@ ghost use Rattle.std.specs.Prelude.{◌≡◌, ℕ, ◌+◌, ◌<◌, ◌≤◌,
 ghost use Rattle.std.specs.Prelude.{slice_index, slice_index_or};
 ghost use Rattle.std.specs.List.{list_all};
 ghost use Rattle.table_sizes.specs.Groups.{max_key_len};
+ghost use Rattle.table_sizes.specs.Sizes.{row_len};
 ghost use Rattle.flat_table.specs.Word.{index_of, is_match, is_node};
 ghost use Rattle.flow_core.specs.Rows.{joined_into};
 ghost use Rattle.flow_core.specs.Machine.{moved_to};
 ghost use Rattle.flow_core.specs.Standing.{LeadsOnward, held_after, rows_after};
-ghost use Rattle.lane_walk.specs.Turn.{EndsOrLeads, HasCome, held_in, no_one, rows_after_four};
+ghost use Rattle.lane_walk.specs.Turn.{EndsOrLeads, HasCome, HasRoom, held_in, no_one};
+ghost use Rattle.lane_walk.specs.Turn.{Notes, NotesFour};
 
 use flat_table::{INDEX_BITS, MATCH, Table, index_of, is_end, is_match};
 use flow_core::{Flight, Scratch};
@@ -139,18 +141,46 @@ pub(crate) fn has_end(words: &[u64; AT_ONCE]) -> bool
     is_end(words[0]) | is_end(words[1]) | is_end(words[2]) | is_end(words[3])
 }
 
-/// Joins the rows of those of four flights, from one on and in order, that came to a match.
+/// Where the flight came to a match, the row that it names is noted for its key and trie.
+#[inline]
+pub(crate) fn note_ended(scratch: &mut Scratch, flight: &Flight)
+    requires { HasRoom flight.now (length scratch.old) }
+    ensures notes { Notes flight.now flight.now.word scratch.old scratch.new }
+    ensures len { length scratch.new ≡ length scratch.old }
+{
+    if is_end(flight.word) {
+        scratch.note(flight.key, flight.trie, index_of(flight.word) as u64);
+    }
+}
+
+/// The next word of a flight. After a match the row that it names is noted for the flight's key
+/// and trie.
+#[inline]
+pub(crate) fn land_noted(scratch: &mut Scratch, flight: &mut Flight, word: u64)
+    requires lawful { is_match word ≡ false → is_node word ≡ true }
+    requires depth { flight.old.depth < max_key_len }
+    requires key { flight.old.key < length scratch.old }
+    requires trie { flight.old.trie < row_len }
+    ensures held { held_in flight.new ≡ held_after flight.old word }
+    ensures lawful { EndsOrLeads flight.new }
+    ensures notes { Notes flight.old word scratch.old scratch.new }
+{
+    go_on(flight, word);
+    note_ended(scratch, flight);
+}
+
+/// Notes the rows of those of four flights, from one on and in order, that came to a match.
 ///
 /// It is not inlined, and reads the flights itself, so that no one keeps them until then.
 #[inline(never)]
-pub(crate) fn join_each(table: &Table, scratch: &mut Scratch, flights: &[Flight], first: usize)
+pub(crate) fn note_each(scratch: &mut Scratch, flights: &[Flight], first: usize)
     requires room { first + AT_ONCE ≤ length flights.now }
-    requires come { (k : ℕ) → k < AT_ONCE → HasCome table.now
+    requires come { (k : ℕ) → k < AT_ONCE → HasRoom
         (slice_index_or flights.now (first + k) no_one) (length scratch.old) }
-    ensures { scratch.new ≡ rows_after_four table.now flights.now first scratch.old }
+    ensures { NotesFour flights.now first scratch.old scratch.new }
 {
-    join_ended(table, scratch, &flights[first]);
-    join_ended(table, scratch, &flights[first + 1]);
-    join_ended(table, scratch, &flights[first + 2]);
-    join_ended(table, scratch, &flights[first + 3]);
+    note_ended(scratch, &flights[first]);
+    note_ended(scratch, &flights[first + 1]);
+    note_ended(scratch, &flights[first + 2]);
+    note_ended(scratch, &flights[first + 3]);
 }

@@ -12,11 +12,8 @@ ghost use Rattle.flow_core.specs.Standing.{BatchFits, StandsOver, LeadsOnward};
 ghost use Rattle.flow_core.specs.Standing.{held_after, rows_after};
 ghost use Rattle.lane_walk.specs.Turn.{IsLanes, is_busy, busy_slots, flow_turn, held_in};
 ghost use Rattle.lane_walk.specs.Turn.{AreBusy, EndsOrLeads, GoesBy, IsPlaceOf, StepsLanes};
-ghost use Rattle.lane_walk.specs.Turn.{AreIdle, HasCome, no_one, rows_after_four};
 
-use crate::flights::{
-    AT_ONCE, are_empty, go_on, has_end, is_at_end, join_each, land, no_flight, of_trie, words_at,
-};
+use crate::flights::{AT_ONCE, are_empty, is_at_end, land, no_flight, of_trie};
 use flat_table::{Table, is_end};
 use flow_core::laws::stay_in;
 use flow_core::{Flight, Scratch, byte_of, flight_of};
@@ -32,11 +29,11 @@ use std::marker::Model;
 #[derive(Drop)]
 pub struct LaneFlows<const W: usize> {
     /// How many jobs there are.
-    jobs: usize,
+    pub(crate) jobs: usize,
     /// How many of them were given out.
-    given: usize,
+    pub(crate) given: usize,
     /// The flight of each slot, where its word is no match. Where it is one, the slot is empty.
-    flights: [Flight; W],
+    pub(crate) flights: [Flight; W],
 }
 
 impl<const W: usize> Model for LaneFlows<W> {
@@ -80,36 +77,11 @@ impl<const W: usize> LaneFlows<W> {
 
     /// Whether the slot of the lane holds a flight.
     #[inline]
-    fn is_busy(&self, lane: usize) -> bool
+    pub(crate) fn is_busy(&self, lane: usize) -> bool
         requires { lane < W }
         ensures { result ≡ is_busy (slice_index_or self.now.slots lane None) }
     {
         !is_end(self.flights[lane].word)
-    }
-
-    /// Whether the slots of four lanes, from one on, hold a flight each.
-    #[inline]
-    fn are_busy(&self, first: usize) -> bool
-        requires { first + AT_ONCE ≤ W }
-        ensures { result ≡ true → AreBusy self.now first }
-    {
-        // All four are asked at once, since one test of their words together takes fewer steps.
-        self.is_busy(first)
-            & self.is_busy(first + 1)
-            & self.is_busy(first + 2)
-            & self.is_busy(first + 3)
-    }
-
-    /// Whether the slots of four lanes, from one on, are all empty.
-    #[inline]
-    fn are_idle(&self, first: usize) -> bool
-        requires { first + AT_ONCE ≤ W }
-        ensures { result ≡ true → AreIdle self.now first }
-    {
-        !(self.is_busy(first)
-            | self.is_busy(first + 1)
-            | self.is_busy(first + 2)
-            | self.is_busy(first + 3))
     }
 
     /// The word and the key byte by which the lane goes on, or any byte where it is empty.
@@ -137,7 +109,7 @@ impl<const W: usize> LaneFlows<W> {
     /// The places of the words that four lanes take next, from one on, which may be known to be
     /// busy.
     #[inline]
-    fn places_from<const ONE: bool, const BUSY: bool>(
+    pub(crate) fn places_from<const ONE: bool, const BUSY: bool>(
         &self,
         table: &Table,
         keys: &[u8],
@@ -229,54 +201,9 @@ impl<const W: usize> LaneFlows<W> {
         0
     }
 
-    /// A step of each of four empty lanes, from one on and in order.
-    #[inline]
-    fn begin_four(&mut self, table: &Table, keys: &[u8], scratch: &Scratch, first: usize)
-        requires width { W ≤ 16 }
-        requires first { first + AT_ONCE ≤ W }
-        requires stands { StandsOver table.now keys.now self.old (length scratch.now) }
-        requires idle { AreIdle self.old first }
-        ensures { StepsLanes table.now keys.now self.old scratch.now first AT_ONCE self.new
-            scratch.now 0 }
-    {
-        for k in 0..AT_ONCE {
-            self.begin_job(table, keys, scratch, first + k);
-        }
-    }
-
-    /// A step of each of four busy lanes, from one on and in order.
-    #[inline]
-    fn land_four<const ONE: bool>(
-        &mut self,
-        table: &Table,
-        keys: &[u8],
-        scratch: &mut Scratch,
-        first: usize,
-    )
-        requires one { ONE ≡ true → length table.now.roots ≡ 1 }
-        requires width { W ≤ 16 }
-        requires first { first + AT_ONCE ≤ W }
-        requires stands { StandsOver table.now keys.now self.old (length scratch.old) }
-        requires busy { AreBusy self.old first }
-        ensures { StepsLanes table.now keys.now self.old scratch.old first AT_ONCE self.new
-            scratch.new AT_ONCE }
-    {
-        stay_in(table);
-        let places = self.places_from::<ONE, true>(table, keys, first);
-        let words = words_at(table.words(), &places);
-        go_on(&mut self.flights[first], words[0]);
-        go_on(&mut self.flights[first + 1], words[1]);
-        go_on(&mut self.flights[first + 2], words[2]);
-        go_on(&mut self.flights[first + 3], words[3]);
-        if !has_end(&words) {
-            return;
-        }
-        join_each(table, scratch, &self.flights, first);
-    }
-
     /// A step of each of four lanes, from one on and in order, and how many of them were busy
-    /// before. It is not inlined, for mostly all four are busy.
-    #[inline(never)]
+    /// before.
+    #[inline]
     fn step_each<const ONE: bool>(
         &mut self,
         table: &Table,
@@ -291,41 +218,12 @@ impl<const W: usize> LaneFlows<W> {
         ensures { StepsLanes table.now keys.now self.old scratch.old first AT_ONCE self.new
             scratch.new result }
     {
-        // Walks of one length begin together and end together.
-        if self.are_idle(first) {
-            self.begin_four(table, keys, scratch, first);
-            return 0;
-        }
         let places = self.places_from::<ONE, false>(table, keys, first);
         let mut busy = 0;
         for k in 0..AT_ONCE {
             busy += self.step_lane(table, keys, scratch, first + k, places[k] as usize);
         }
         busy
-    }
-
-    /// A step of each of four lanes, from one on and in order, and how many of them were busy
-    /// before. Mostly all four are, and then no lane asks again.
-    #[inline]
-    fn step_four<const ONE: bool>(
-        &mut self,
-        table: &Table,
-        keys: &[u8],
-        scratch: &mut Scratch,
-        first: usize,
-    ) -> u32
-        requires one { ONE ≡ true → length table.now.roots ≡ 1 }
-        requires width { W ≤ 16 }
-        requires first { first + AT_ONCE ≤ W }
-        requires stands { StandsOver table.now keys.now self.old (length scratch.old) }
-        ensures { StepsLanes table.now keys.now self.old scratch.old first AT_ONCE self.new
-            scratch.new result }
-    {
-        if self.are_busy(first) {
-            self.land_four::<ONE>(table, keys, scratch, first);
-            return AT_ONCE as u32;
-        }
-        self.step_each::<ONE>(table, keys, scratch, first)
     }
 
     /// A step of each slot, in order, and how many of them were busy before: so many words are
@@ -367,7 +265,7 @@ impl<const W: usize> LaneFlows<W> {
         let lanes = self.flights.as_slice().len();
         let mut busy = 0;
         for group in 0..lanes / AT_ONCE {
-            busy += self.step_four::<ONE>(table, keys, scratch, group * AT_ONCE);
+            busy += self.step_each::<ONE>(table, keys, scratch, group * AT_ONCE);
         }
         busy
     }

@@ -7,6 +7,8 @@
 //!
 //! - `flights`: what lanes keep, and how it goes on.
 //! - `lanes`: the machine and its turn.
+//! - `noting`: the same turn, which notes the rows that walks reach instead of joining them.
+//! - `rows`: the rows of keys, joined of those that were noted.
 //! - `classify`: turns until the machine is done, and the verdicts of a batch.
 //!
 //! After DPDK's `lib/acl/acl_run_sse.h` and `acl_run_avx2.h`, which step 4, 8 or 16 flows at once.
@@ -15,6 +17,8 @@
 mod classify;
 mod flights;
 mod lanes;
+mod noting;
+mod rows;
 
 pub use classify::{Flown, classify_lanes, classify_lanes_marked};
 pub use lanes::LaneFlows;

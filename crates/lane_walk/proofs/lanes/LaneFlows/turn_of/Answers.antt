@@ -14,7 +14,7 @@ loop-group-preserved g c =
     let more : n + 4 ≡ (c.loop-group.group + 1) * 4 = omega arith in
     let table = c.args.table.now in
     let keys = c.args.keys.now in
-    let step = c.step_four-busy in
+    let step = c.step_each-busy in
     subst (λ (count : ℕ). StepsLanes table keys c.args.self.now c.args.scratch.now 0 count step.new.self
     step.new.scratch (c.loop-group.busy + step.result)) more
     (and_then c.loop-group.invariant

@@ -1,12 +1,12 @@
 use Rattle.std.proofs.Common.{◌+◌, ap, ◌∙◌, arith}
 use Rattle.lane_walk.specs.Turn.{is_busy}
-use Rattle.lane_walk.proofs.Turns.{and_then, holds_as_before}
-use Rattle.lane_walk.proofs.lanes.LaneFlows.begin_four.Goals as goal
+use Rattle.lane_walk.proofs.NoteSteps.{and_noted, holds_still}
+use Rattle.lane_walk.proofs.lanes.LaneFlows.take_four.Goals as goal
 
-pub begin_job-requires : goal.begin_job-requires
-begin_job-requires g c =
+pub take_job-requires : goal.take_job-requires
+take_job-requires g c =
     let k = c.loop-k.k in
-    let same = holds_as_before c.loop-k.invariant (c.args.first + k) (omega arith) in
+    let same = holds_still c.loop-k.invariant (c.args.first + k) (omega arith) in
     let empty = ap is_busy same ∙ c.requires.idle k c.loop-k-test.true in (
       omega (arith, c.requires.width),
       (
@@ -16,4 +16,4 @@ begin_job-requires g c =
     )
 
 pub loop-k-preserved : goal.loop-k-preserved
-loop-k-preserved g c = and_then c.loop-k.invariant c.begin_job.ensures
+loop-k-preserved g c = and_noted c.loop-k.invariant c.take_job.ensures

@@ -2,11 +2,11 @@ use Rattle.std.proofs.Common.{◌≡◌, ℕ, ◌+◌, ◌<◌, arith, lit<, get
 use Rattle.std.specs.Prelude.{slice_index}
 use Rattle.flow_core.specs.declared.flight.Flight.{Flight}
 use Rattle.lane_walk.specs.Turn.{no_one}
-use Rattle.lane_walk.proofs.Fours.{at_once, depth_below, four_come, four_go, four_goes, four_there, fourth_is}
+use Rattle.lane_walk.proofs.Fours.{at_once, depth_below, four_room, four_go, four_goes, four_there, fourth_is}
 use Rattle.lane_walk.proofs.Fours.{four_lawful, leads, none_end}
 use Rattle.lane_walk.proofs.Fours.{second_is, third_is}
 use Rattle.table_sizes.specs.Groups.{max_key_len}
-use Rattle.lane_walk.proofs.lanes.LaneFlows.land_four.Goals as goal
+use Rattle.lane_walk.proofs.lanes.LaneFlows.note_four.Goals as goal
 
 pub words_at-words-requires : goal.words_at-words-requires
 words_at-words-requires g c k h =
@@ -25,18 +25,18 @@ has_end-requires g c k h =
     let goes = four_goes flights a c.words_at-words.result c.words.ensures c.words_at-words.ensures in
     leads (goes k h).onward
 
-pub join_each-requires-clause-room : goal.join_each-requires-clause-room
-join_each-requires-clause-room g c = omega (arith, c.requires.first, c.self.told)
+pub note_each-requires-clause-room : goal.note_each-requires-clause-room
+note_each-requires-clause-room g c = omega (arith, c.requires.first, c.self.told)
 
-pub join_each-requires-clause-come : goal.join_each-requires-clause-come
-join_each-requires-clause-come g c k h =
+pub note_each-requires-clause-come : goal.note_each-requires-clause-come
+note_each-requires-clause-come g c k h =
     let flights = c.self.inside.flights in
     let bytes : (i : ℕ) → slice_index c.args.keys.now i < 256 = λ i. omega (arith, c.type_inv.keys i) in
     let a = at_once c.self.view_is c.requires.stands c.requires.first c.self.told c.requires.busy
     c.places_from-places.ensures c.stay_in.ensures.stay c.stay_in.ensures.sound bytes in
     let goes = four_goes flights a c.words_at-words.result c.words.ensures c.words_at-words.ensures in
-    four_come flights a c.words_at-words.result goes c.go_on.ensures c.go_on-2.ensures c.go_on-3.ensures
-    c.go_on-4.ensures k h
+    four_room flights a c.words_at-words.result goes c.go_on.ensures c.go_on-2.ensures c.go_on-3.ensures
+    c.go_on-4.ensures c.stay_in.ensures.few k h
 
 pub returns : goal.returns
 returns g c =
@@ -46,7 +46,7 @@ returns g c =
     c.places_from-places.ensures c.stay_in.ensures.stay c.stay_in.ensures.sound bytes in
     let goes = four_goes flights a c.words_at-words.result c.words.ensures c.words_at-words.ensures in
     four_go flights a c.words_at-words.result goes c.go_on.ensures c.go_on-2.ensures c.go_on-3.ensures
-    c.go_on-4.ensures c.join_each.ensures
+    c.go_on-4.ensures c.note_each.ensures
 
 pub returns-then-not-has_end : goal.returns-then-not-has_end
 returns-then-not-has_end g c =

@@ -2,7 +2,7 @@
 use Rattle.std.proofs.Common.{◌-◌}
 use Rattle.flow_core.specs.Machine.{most_steps}
 use Rattle.lane_walk.proofs.Batches.{Turned}
-use Rattle.lane_walk.proofs.classify.fly.Given as goal
+use Rattle.lane_walk.proofs.classify.fly_of.Given as goal
 
 abbrev pub invariant-loop-lanes : goal.invariant-loop-lanes
 invariant-loop-lanes g l =

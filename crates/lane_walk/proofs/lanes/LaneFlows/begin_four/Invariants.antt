@@ -1,7 +1,0 @@
--- the lanes so far were stepped
-use Rattle.lane_walk.specs.Turn.{StepsLanes}
-use Rattle.lane_walk.proofs.lanes.LaneFlows.begin_four.Given as goal
-
-abbrev pub invariant-loop-k : goal.invariant-loop-k
-invariant-loop-k g l =
-    StepsLanes l.table l.keys l.fn.self l.scratch l.first l.k l.self l.scratch 0

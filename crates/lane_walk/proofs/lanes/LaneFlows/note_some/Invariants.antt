@@ -1,0 +1,7 @@
+-- the lanes so far were stepped
+use Rattle.lane_walk.specs.Turn.{NotesLanes}
+use Rattle.lane_walk.proofs.lanes.LaneFlows.note_some.Given as goal
+
+abbrev pub invariant-loop-k : goal.invariant-loop-k
+invariant-loop-k g l =
+    NotesLanes l.table l.keys l.fn.self l.fn.scratch l.first l.k l.self l.scratch l.busy

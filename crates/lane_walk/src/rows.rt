@@ -1,0 +1,53 @@
+//! The rows of keys, joined of those that their walks noted.
+
+ghost use Rattle.std.specs.Prelude.{◌≡◌, ℕ, ◌<◌, ◌≤◌, length, drop, take, slice_index, slice_index_or, []};
+ghost use Rattle.table_sizes.specs.Sizes.{row_len};
+ghost use Rattle.flat_table.specs.Batch.{keys_in};
+ghost use Rattle.lane_walk.specs.Turn.{AreAllNoted, AreRowsOf, IsRowOf};
+
+use flat_table::Table;
+use flow_core::{Scratch, join_rows};
+use table_sizes::ROW_LEN;
+
+/// A copy of the row.
+#[inline]
+fn copied(row: &[u64; ROW_LEN]) -> [u64; ROW_LEN]
+    ensures same { result ≡ row.now }
+    ensures len { length result ≡ row_len }
+{
+    *row
+}
+
+/// The joined row of the rows whose numbers stand in the first words, one for each trie.
+#[inline]
+fn joined_of(table: &Table, noted: &[u64; ROW_LEN]) -> [u64; ROW_LEN]
+    requires { (trie : ℕ) → trie < length table.now.roots →
+        slice_index noted.now trie < length table.now.rows }
+    ensures { IsRowOf table.now noted.now (length table.now.roots) result }
+{
+    // With one trie there is nothing to join.
+    let tries = table.tries();
+    if tries == 1 {
+        return copied(table.row(noted[0] as usize));
+    }
+    let mut row = [0; ROW_LEN];
+    for trie in 0..tries {
+        join_rows(&mut row, table.row(noted[trie] as usize));
+    }
+    row
+}
+
+/// Makes the rows of the first keys the joined ones of the rows that are noted in them.
+pub(crate) fn join_noted(table: &Table, scratch: &mut Scratch, keys: usize)
+    requires keys { keys ≤ length scratch.old }
+    requires there { (k trie : ℕ) → k < keys → trie < length table.now.roots →
+        slice_index (slice_index_or scratch.old k []) trie < length table.now.rows }
+    ensures rows { AreRowsOf table.now scratch.old keys scratch.new }
+    ensures others { drop keys scratch.new ≡ drop keys scratch.old }
+    ensures len { length scratch.new ≡ length scratch.old }
+{
+    for k in 0..keys {
+        let row = joined_of(table, scratch.row(k));
+        scratch.put(k, &row);
+    }
+}
