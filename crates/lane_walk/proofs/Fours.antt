@@ -63,7 +63,7 @@ pub room_for : {word : ℕ} (before : Flight) {next : Flight} {rows : ℕ} →
     (is_match word ≡ false → is_node word ≡ true) → before.key < rows → before.trie < row_len →
     next ≡ moved_to word before → HasRoom next rows
 room_for before {rows = rows} lawful key trie is =
-    subst (λ (flight : Flight). HasRoom flight rows) (sym is) record { lawful = lawful; key = key; trie = trie; }
+    subst (λ (flight : Flight). HasRoom flight rows) (sym is) record { lawful = lawful; key = key; trie = trie }
 
 -- with as many rows there is still a place
 pub still : {flight : Flight} {rows new : ℕ} → HasRoom flight rows → new ≡ rows → HasRoom flight new
@@ -74,7 +74,7 @@ pub noted_as : {flight next : Flight} {word : ℕ} {old new : List (List ℕ)} �
     Notes next next.word old new → Notes flight word old new
 noted_as {word = word} {old = old} {new = new} is n =
     let moved = subst (λ (it : Flight). Notes it it.word old new) is n in
-    record { rows = moved.rows; number = moved.number; }
+    record { rows = moved.rows; number = moved.number }
 
 -- ---- one lane
 
@@ -303,7 +303,7 @@ module _ {table : TableView} {keys : List ℕ} {jobs given : ℕ} (flights : Lis
     }
       where
         nothing : (flight : Flight) → is_match flight.word ≡ false → Notes flight flight.word rows rows
-        nothing flight on = record { rows = rw on refl; number = λ match. absurd (cc (match, on)); }
+        nothing flight on = record { rows = rw on refl; number = λ match. absurd (cc (match, on)) }
 
     -- and each was stepped
     pub four_go : {new : List (List ℕ)} → NotesFour f4 first rows new →

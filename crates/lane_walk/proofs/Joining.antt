@@ -104,22 +104,22 @@ pub joined_more : {table : TableView} {old rows : List (List ℕ)} {keys n : ℕ
     IsRowOf table noted (length table.roots) row → JoinedTo table old keys (n + 1) (set rows n row)
 joined_more {table = table} {old = old} {rows = rows} {keys = keys} {n = n} {noted = noted} {row = row} j there below
     noted_is is = record {
-  len = length-set rows n row ∙ j.len;
-  others = drop-set-lt keys rows n row below ∙ j.others;
-  done = λ k below. elim (cases_eq k n) [
-    | inl same ↦ subst (λ (m : ℕ). IsRowOf table (get_or old m []) (length table.roots) (get_or (set rows n row) m []))
-        (sym same)
-        (subst (λ (xs : List ℕ). IsRowOf table (get_or old n []) (length table.roots) xs)
-        (sym (get_or-set_same rows n row [] (omega (arith, there, j.len))))
-        (subst (λ (xs : List ℕ). IsRowOf table xs (length table.roots) row)
-        (sym noted_is ∙ j.later n (omega arith)) is))
-    | inr other ↦ subst (λ (xs : List ℕ). IsRowOf table (get_or old k []) (length table.roots) xs)
-        (sym (get_or-set_other rows n k row [] other)) (j.done k (omega (arith, below, other)))
-  ];
-  later = λ k past.
-      let other : k ≢ n = omega (arith, past) in
-      get_or-set_other rows n k row [] other ∙ j.later k (omega (arith, past));
-}
+      len = length-set rows n row ∙ j.len;
+      others = drop-set-lt keys rows n row below ∙ j.others;
+      done = λ k below. elim (cases_eq k n) [
+        | inl same ↦ subst (λ (m : ℕ). IsRowOf table (get_or old m []) (length table.roots) (get_or (set rows n row) m []))
+            (sym same)
+            (subst (λ (xs : List ℕ). IsRowOf table (get_or old n []) (length table.roots) xs)
+            (sym (get_or-set_same rows n row [] (omega (arith, there, j.len))))
+            (subst (λ (xs : List ℕ). IsRowOf table xs (length table.roots) row)
+            (sym noted_is ∙ j.later n (omega arith)) is))
+        | inr other ↦ subst (λ (xs : List ℕ). IsRowOf table (get_or old k []) (length table.roots) xs)
+            (sym (get_or-set_other rows n k row [] other)) (j.done k (omega (arith, below, other)))
+      ];
+      later = λ k past.
+          let other : k ≢ n = omega (arith, past) in
+          get_or-set_other rows n k row [] other ∙ j.later k (omega (arith, past));
+    }
 
 module _ {table : TableView} {keys : List ℕ} {noted : List (List ℕ)} (new : List (List ℕ)) (a : AreAllNoted table keys noted)
     (r : AreRowsOf table noted (keys_in table keys) new) (room : keys_in table keys ≤ length new) where

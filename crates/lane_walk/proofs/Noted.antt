@@ -136,8 +136,11 @@ module _ {table : TableView} {keys : List ℕ} where
               | inl else ↦ inl else
               | inr own ↦ inl (lane, next, get_or-set_same before.slots lane (Some next) None within, own)
             ]
-            | inr noted ↦ inr (ap (λ (rows : List (List ℕ)). slice_index (get_or rows (job_at table m).key [])
-                (job_at table m).trie) same ∙ noted.0, noted.1)
+            | inr noted ↦ inr (
+              ap (λ (rows : List (List ℕ)). slice_index (get_or rows (job_at table m).key [])
+                  (job_at table m).trie) same ∙ noted.0,
+              noted.1,
+            )
           ];
         }
 

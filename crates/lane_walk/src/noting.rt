@@ -176,8 +176,8 @@ impl<const W: usize> LaneFlows<W> {
     }
 
     /// A step of each of four lanes, from one on and in order, and how many of them were busy
-    /// before. It is not inlined, for mostly all four are busy.
-    #[inline(never)]
+    /// before.
+    #[inline]
     fn note_some<const ONE: bool>(
         &mut self,
         table: &Table,

@@ -6,11 +6,17 @@ use Rattle.lane_walk.proofs.Turns.{lanes_few, lanes_some}
 use Rattle.lane_walk.proofs.classify.fly_of.Goals as goal
 
 pub begin_noting-lanes-requires : goal.begin_noting-lanes-requires
-begin_noting-lanes-requires g c = (omega (arith, lanes_few c.requires.lanes), (c.requires.lanes, record {
-  whole = c.requires.fits.whole;
-  few = c.requires.fits.few;
-  room = omega arith;
-}))
+begin_noting-lanes-requires g c = (
+  omega (arith, lanes_few c.requires.lanes),
+  (
+    c.requires.lanes,
+    record {
+      whole = c.requires.fits.whole;
+      few = c.requires.fits.few;
+      room = omega arith;
+    },
+  ),
+)
 
 pub done-requires : goal.done-requires
 done-requires g c = omega (arith, lanes_few c.requires.lanes)

@@ -29,7 +29,7 @@ returns-clause-stands g c = λ rows room.
     })
     record {
       jobs = refl;
-      fits = record { whole = c.requires.fits.whole; few = c.requires.fits.few; room = room; };
+      fits = record { whole = c.requires.fits.whole; few = c.requires.fits.few; room = room };
       flights = All-from_get_or P (replicate g.row.W None) None
           (λ i below. subst P (sym (get_or-replicate g.row.W i None None
           (omega (arith, below, length-replicate {A = Option Flight} g.row.W None)))) tt);
