@@ -6,7 +6,8 @@ use Rattle.std.specs.Prelude.{flat_map, slice_get, slice_index, Some}
 use Rattle.std.specs.List.{range_with_len}
 use Rattle.std.proofs.Math.Nat.{mul-le-mul_right}
 use Rattle.std.proofs.lemmas.Grind.{flat_map-append}
-use Rattle.std.proofs.lemmas.List.{length-map, length-take-le, take_more}
+use Rattle.std.proofs.lemmas.List.{length-map, length-take-le, take_more, get_or-map, get_or-take}
+use Rattle.std.proofs.lemmas.List.Concat.{flat_map_single}
 use Rattle.std.proofs.lemmas.List.FromFn.{length-range_with_len, fill_by_all}
 use Rattle.std.proofs.lemmas.Option.{get_or_from_slice_get}
 use Rattle.std.proofs.lemmas.List.Folds.{flat_map-map}
@@ -76,6 +77,32 @@ module _ (rows : List (List ℕ)) (count keys : ℕ) (old : List ℕ) (few : key
       ∙ ap (λ (piece : List ℕ). (flat_map (row_verdicts count) (take k rows) ++ piece) ++ drop ((k + 1) * count) old)
       are
       ∙ ap (λ (front : List ℕ). front ++ drop ((k + 1) * count) old) (sym more)
+
+-- ---- in category 0 alone
+
+-- the verdict of a row in it
+abbrev first_of : List ℕ → ℕ
+first_of row = slice_index row 0 % userdatas
+
+-- verdicts that were written place by place are those of the first rows
+pub firsts_written : (rows : List (List ℕ)) (out : List ℕ) (n : ℕ) → length out ≡ n → n ≤ length rows →
+    ((k : ℕ) → k < n → get_or out k 0 ≡ first_of (get_or rows k [])) → out ≡ map first_of (take n rows)
+firsts_written rows out n len few each =
+    let taken : length (take n rows) ≡ n = length-take-le n rows few in
+    fill_by_all (λ k. first_of (get_or rows k [])) out n 0 len each
+    ∙ sym (fill_by_all (λ k. first_of (get_or rows k [])) (map first_of (take n rows)) n 0
+    (length-map (take n rows) first_of ∙ taken)
+    (λ k below. get_or-map first_of (take n rows) k [] 0 (omega (arith, below, taken))
+    ∙ ap first_of (get_or-take n rows k [] below)))
+
+-- and so they are where one category is asked for
+pub firsts_are : (rows : List (List ℕ)) (n : ℕ) {out : List ℕ} {count room : ℕ} → count ≡ 1 → room ≡ n * count →
+    out ≡ map first_of (take room rows) → out ≡ flat_map (row_verdicts count) (take n rows)
+firsts_are rows n {count = count} {room = room} one fits is =
+    let all : room ≡ n = omega (arith, fits, ap (λ (m : ℕ). n * m) one) in
+    is ∙ ap (λ (m : ℕ). map first_of (take m rows)) all
+    ∙ sym (flat_map_single first_of (take n rows))
+    ∙ ap (λ (m : ℕ). flat_map (row_verdicts m) (take n rows)) (sym one)
 
 -- ---- of rows that are joined they are those of the table
 module _ (table : TableView) (keys : List ℕ) (count : ℕ) (few : count ≤ row_len) (rows : List (List ℕ))

@@ -1,8 +1,9 @@
 //! A whole run of a machine, by any list of slots.
 
 ghost use Rattle.std.specs.Prelude.{◌≡◌, ◌+◌, ◌*◌, ◌%◌, ◌<◌, ◌≤◌, length, drop, take, true, false};
-ghost use Rattle.std.specs.Prelude.{flat_map};
+ghost use Rattle.std.specs.Prelude.{flat_map, map, slice_index};
 ghost use Rattle.table_sizes.specs.Sizes.{row_len};
+ghost use Rattle.flat_table.specs.Walk.{userdatas};
 ghost use Rattle.flat_table.specs.Batch.{LengthsFit, keys_in, batch_verdicts};
 ghost use Rattle.flow_core.specs.Rows.{row_verdicts};
 ghost use Rattle.flow_core.specs.Machine.{is_done, flow_from_first};
@@ -26,6 +27,17 @@ fn write_row(row: &[u64; ROW_LEN], verdicts: &mut [u32])
     }
 }
 
+/// Writes the verdicts of the rows of the first keys in category 0, as many as there is room for.
+fn write_firsts(scratch: &Scratch, out: &mut [u32])
+    requires { length out.old ≤ length scratch.now }
+    ensures { out.new ≡ map (λ row. slice_index row 0 % userdatas)
+        (take (length out.old) scratch.now) }
+{
+    for (k, verdict) in out.iter_mut().enumerate() {
+        *verdict = userdata_of(scratch.row(k)[0]);
+    }
+}
+
 /// Writes the verdicts of the rows of the first keys, so many of each: the categories from 0 on of
 /// the first key, then those of the second.
 ///
@@ -36,6 +48,11 @@ pub fn write_verdicts(scratch: &Scratch, keys: usize, count: usize, out: &mut [u
     requires room { length out.old ≡ keys * count }
     ensures { out.new ≡ flat_map (row_verdicts count) (take keys scratch.now) }
 {
+    // One category is the common case, and needs no parts of the room.
+    if count == 1 {
+        write_firsts(scratch, out);
+        return;
+    }
     for k in 0..keys {
         write_row(scratch.row(k), &mut out[k * count..(k + 1) * count]);
     }
