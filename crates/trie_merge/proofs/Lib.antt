@@ -1,3 +1,4 @@
+mod FoundPlaces
 pub mod Ahead
 pub mod Successors
 pub mod Leads

@@ -5,6 +5,7 @@ pub mod Led
 pub mod Merged
 pub mod Names
 pub mod Numbers
+pub mod FoundNumbers
 pub mod Places
 pub mod Priced
 pub mod Shared

@@ -27,12 +27,12 @@ ghost use Rattle.trie_merge.specs.declared.order.Keyed.{Keyed};
 
 use crate::column::Column;
 use crate::entry::entry_of;
+use crate::found::Found;
 use crate::kept::Kept;
 use crate::levels::{Level, Levels};
 use crate::merge::{Budget, FIRST_ROOM, MergeFault, Merged, Place, Reached, merge_states};
 use crate::names::{name_rows, names_of, rank_rules};
 use crate::order::{Keyed, order_rules};
-use indexmap::IndexSet;
 use node_expand::Edge;
 use rule_set::RuleSet;
 use state_parts::{Parts, Rows, Target};
@@ -78,10 +78,10 @@ fn start_states(alloc: Global, order: &[Keyed]) -> Result<Reached, AllocError>
 {
     let mut reached = Reached {
         target: Target::Parts(Parts::with_room(alloc, 2 * order.len())?),
-        found: IndexSet::new(alloc),
+        found: Found::new(alloc),
     };
     let number = join_entries(alloc, order, &mut reached.target)?;
-    reached.found.insert_full(number)?;
+    reached.found.put(number)?;
     Ok(reached)
 }
 

@@ -17,6 +17,7 @@
 //!   all states that share the part.
 //! - `cuts`: how many words a state takes, told by at most four of its cut bytes before the state
 //!   itself is merged.
+//! - `found`: numbers in the order in which they are found, and the place of each.
 //! - `number`: what the states lead to numbered in the order in which it is found, and the runs of
 //!   bytes.
 //! - `names`: the rows of ranks that are found at the end as rows of the rules' numbers.
@@ -33,6 +34,7 @@ mod column;
 mod cuts;
 mod entry;
 mod follow;
+mod found;
 mod kept;
 mod levels;
 mod merge;

@@ -21,9 +21,9 @@ ghost use Rattle.trie_merge.specs.Cuts.{CanAsk, CutsFor};
 use crate::column::Column;
 use crate::cuts::{Cuts, fill_cuts, words_of};
 use crate::follow::lead_parts;
+use crate::found::Found;
 use crate::number::join_runs;
 use group_states::Run;
-use indexmap::IndexSet;
 use state_parts::{PartPieces, Parts, Piece, Rows, Target};
 use std::alloc::{AllocError, Global};
 use table_sizes::{ROW_LEN, node_len};
@@ -89,7 +89,7 @@ pub(crate) struct Budget {
 /// What the bytes of a place lead to, and the numbers of what its states lead to.
 pub(crate) struct Reached {
     pub(crate) target: Target,
-    pub(crate) found: IndexSet<u32>,
+    pub(crate) found: Found,
 }
 
 /// It is written out so that letting go is one call, and not the steps of its two sets at each
@@ -173,7 +173,7 @@ impl Progress {
     ) -> Result<Self, AllocError>
         ensures { IfOk result (IsFirst target before) }
     {
-        let found = IndexSet::with_capacity(alloc, states.min(FIRST_ROOM))?;
+        let found = Found::with_room(alloc, states.min(FIRST_ROOM))?;
         Ok(Progress {
             work: Work {
                 steps: PartPieces::with_room(alloc, parts)?,

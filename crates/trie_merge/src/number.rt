@@ -7,13 +7,13 @@ ghost use Rattle.group_states.specs.Found.{all_bytes};
 ghost use Rattle.group_states.specs.Levels.{runs_of};
 ghost use Rattle.trie_merge.specs.Numbers.{numbers_with, succ_of};
 
+use crate::found::Found;
 use group_states::{Run, Succ};
-use indexmap::IndexSet;
 use state_parts::Piece;
 use std::alloc::AllocError;
 
 /// What the number is reached as, which is found now if it wasn't before.
-fn reach(is_last: bool, number: u32, found: &mut IndexSet<u32>) -> Result<Succ, AllocError>
+fn reach(is_last: bool, number: u32, found: &mut Found) -> Result<Succ, AllocError>
     requires { length found.old.keys + 1 < 2 ^ 32 }
     ensures found { OnOk result (found.new.keys ≡ numbers_with found.old.keys number) }
     ensures succ { IfOk result (λ succ. succ ≡ succ_of is_last found.new.keys number) }
@@ -21,11 +21,11 @@ fn reach(is_last: bool, number: u32, found: &mut IndexSet<u32>) -> Result<Succ, 
     if number == 0 {
         return Ok(Succ::Dead);
     }
-    let (index, _) = found.insert_full(number)?;
+    let place = found.find(number)?;
     Ok(if is_last {
-        Succ::Row(index as u32)
+        Succ::Row(place)
     } else {
-        Succ::State(index as u32)
+        Succ::State(place)
     })
 }
 
@@ -36,7 +36,7 @@ fn reach(is_last: bool, number: u32, found: &mut IndexSet<u32>) -> Result<Succ, 
 pub(crate) fn join_runs(
     is_last: bool,
     pieces: &[Piece],
-    found: &mut IndexSet<u32>,
+    found: &mut Found,
     runs: &mut Vec<Run>,
 ) -> Result<(), AllocError>
     requires pieces { Covers 0 pieces.now 256 }

@@ -1,7 +1,12 @@
-use Rattle.std.proofs.Common.{refl}
+use Rattle.std.proofs.Common.{refl, arith, length}
 use Rattle.trie_merge.proofs.build.start_states.Goals as goal
-use Rattle.std.proofs.lemmas.List.{nil_from_length}
 use Rattle.trie_merge.specs.Started.{numbers_in}
+
+pub put-requires-clause-new : goal.put-requires-clause-new
+put-requires-clause-new c = rw c.new.ensures refl
+
+pub put-requires-clause-room : goal.put-requires-clause-room
+put-requires-clause-room c = rw c.new.ensures (omega arith)
 
 pub returns : goal.returns
 returns c =
@@ -10,7 +15,7 @@ returns c =
       pairs = its.pairs;
       number = c.in_ok-number.number;
       parts = its.parts;
-      one = rw (nil_from_length c.new.result.keys c.new.ensures.len) at c.in_ok-insert_full.ensures.keys;
+      one = rw c.new.ensures at c.in_ok-put.ensures.found;
       within = its.within;
       order = numbers_in c.args.order.now;
       same = λ rule. refl;
