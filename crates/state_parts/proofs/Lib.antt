@@ -5,5 +5,6 @@ pub mod Leading
 pub mod SliceLaws
 pub mod Covering
 pub mod Pairs
+mod Bucketed
 pub mod All
 pub mod Offered

@@ -11,7 +11,7 @@ use Rattle.state_parts.specs.Keys.{KeyAt, same_pair, AreLower, AreDistinct, has_
 use Rattle.state_parts.proofs.Keys.{key_grows}
 
 -- a pair compares as one with itself
-same_itself : (pair : ℕ × ℕ) → same_pair pair pair ≡ true
+pub same_itself : (pair : ℕ × ℕ) → same_pair pair pair ≡ true
 same_itself pair =
     and_from (pair.0 == pair.0) (pair.1 == pair.1) (eq-eqb pair.0 pair.0 refl) (eq-eqb pair.1 pair.1 refl)
 

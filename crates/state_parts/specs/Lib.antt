@@ -1,4 +1,5 @@
 pub mod Keys
+pub mod Buckets
 pub mod Tree
 pub mod Rows
 pub mod RowsView

@@ -8,6 +8,7 @@
 //! (`acl_bld.c`) merges the tries of rules node by node, a part is merged from what its two sides
 //! lead to.
 //!
+//! - `pair_set`: pairs of numbers, each kept once, and found by buckets.
 //! - `parts`: numbered parts of one place.
 //! - `rows`: numbered rows, which follow the last place: the greatest rank of each category.
 //! - `target`: what bytes lead to, numbered parts or numbered rows.
@@ -16,6 +17,7 @@
 //! - `room`: numbers that run out.
 #![tactic(auto)]
 
+mod pair_set;
 mod part_pieces;
 mod parts;
 mod pieces;

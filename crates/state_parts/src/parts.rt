@@ -1,7 +1,6 @@
 //! Numbered parts of one place.
 
-use crate::room::check_room;
-use indexmap::IndexSet;
+use crate::pair_set::PairSet;
 use std::alloc::{AllocError, Global};
 use std::marker::Model;
 
@@ -9,8 +8,7 @@ use std::marker::Model;
 /// part is 0 is an entry.
 #[derive(Drop)]
 pub struct Parts {
-    alloc: Global,
-    pairs: IndexSet<(u32, u32)>,
+    pairs: PairSet,
 }
 
 impl Model for Parts {
@@ -36,8 +34,7 @@ impl Parts {
         ensures { IfOk result (λ parts. parts ≡ []) }
     {
         Ok(Parts {
-            alloc,
-            pairs: IndexSet::with_capacity(alloc, count)?,
+            pairs: PairSet::with_room(alloc, count)?,
         })
     }
 
@@ -56,10 +53,7 @@ impl Parts {
             (result.0 ≤ index) × (0 < result.1) × (result.1 ≤ index) }
         ensures part { KeyAt same_pair self.now result (index + 1) }
     {
-        match self.pairs.get_index(index) {
-            Some(pair) => *pair,
-            None => unreachable!(),
-        }
+        self.pairs.at(index)
     }
 
     /// The number of the part of the pair. It takes memory where the part is new.
@@ -73,9 +67,8 @@ impl Parts {
         ensures entries { OnOk result ((entry : ℕ) → has_entry self.new entry ≡ true →
             (has_entry self.old entry ≡ true) ⊎ (same_pair (0, entry) pair ≡ true)) }
     {
-        check_room(self.alloc, self.pairs.len())?;
-        let (index, _) = self.pairs.insert_full(pair)?;
-        Ok(index as u32 + 1)
+        let number = self.pairs.insert(pair)?;
+        Ok(number)
     }
 
     /// The number of the part that is the one entry. It takes memory where the part is new.
