@@ -146,8 +146,8 @@ tries_reach version key_len taken bytes zero tries all few e =
       few = omega (arith, few, ap (λ (t : TriesView). sum t.level_lens) same);
     }
 tries_reach version key_len taken bytes (suc count) tries all few e =
-    let parts = of_both (one_trie version key_len taken bytes tries) (tries_after version key_len taken bytes count) all e
-    in
+    let parts = of_both (one_trie version key_len taken bytes tries)
+    (tries_after version key_len taken bytes count) all e in
     let one = one_trie_reaches version key_len taken bytes tries parts.0 few parts.1 in
     let rest = tries_reach version key_len taken bytes count parts.0 all one.few parts.2 in
     record { ends = omega (arith, one.ends, rest.ends); few = rest.few }

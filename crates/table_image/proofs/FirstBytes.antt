@@ -335,9 +335,10 @@ image_same front more long_enough =
     λ bytes. tested kind.Version short known bytes 4 >>= λ number. Ok (version_of number) in
     let ends : Version → List ℕ → TableRead → TableRead → Reading PairView =
     λ version bytes ip4 ip6. checked (length bytes == ip6.end) Trailing ip6.end (made ip4 ip6) in
-    alike (version_read all) (version_read front) (λ version. pair_read version all) (λ version. pair_read version front)
-    (alike (tested Magic short (λ number. number == magic) all 0) (tested Magic short (λ number. number == magic) front 0)
-    (λ _. numbered all) (λ _. numbered front)
+    alike (version_read all) (version_read front) (λ version. pair_read version all)
+    (λ version. pair_read version front)
+    (alike (tested Magic short (λ number. number == magic) all 0)
+    (tested Magic short (λ number. number == magic) front 0) (λ _. numbered all) (λ _. numbered front)
     (tested_same front more Magic short (λ number. number == magic) 0 (omega (arith, long_enough)))
     (λ number e. ap (λ r. r >>= λ number. Ok (version_of number))
     (tested_same front more kind.Version short known 4 (omega (arith, long_enough)))))
