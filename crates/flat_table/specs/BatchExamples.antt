@@ -22,11 +22,12 @@ apart_table = record source_table {
   rows = row_of 0 ∷ (0x100000007 ∷ 0 ∷ 0x100000000 ∷ replicate 13 0) ∷ [];
 }
 
-keys_of_three : map (key_at apart_table three_keys) (0 ∷ 1 ∷ 2 ∷ []) ≡ from_10 ∷ from_11 ∷ from_10 ∷ []
+keys_of_three : map (key_at apart_table three_keys) (0 ∷ 1 ∷ 2 ∷ [])
+    ≡ from_10 ∷ from_11 ∷ from_10 ∷ []
 keys_of_three = refl
 
-how_many : (keys_in apart_table [] ∷ keys_in apart_table from_10 ∷ keys_in apart_table three_keys ∷ [])
-    ≡ 0 ∷ 1 ∷ 3 ∷ []
+how_many : (keys_in apart_table [] ∷ keys_in apart_table from_10
+    ∷ keys_in apart_table three_keys ∷ []) ≡ 0 ∷ 1 ∷ 3 ∷ []
 how_many = refl
 
 -- a verdict of 0 is that of a rule in category 2, and that of none in category 1
@@ -54,6 +55,7 @@ transitions_of_first : map (first_transitions apart_table three_keys) (0 ∷ 1 �
     ≡ 0 ∷ 4 ∷ 5 ∷ 9 ∷ []
 transitions_of_first = refl
 
-transitions_of_batch : (batch_transitions apart_table three_keys ∷ most_of_batch apart_table three_keys
-    ∷ batch_transitions two_tries three_keys ∷ []) ≡ 9 ∷ 39 ∷ 12 ∷ []
+transitions_of_batch : (batch_transitions apart_table three_keys
+    ∷ most_of_batch apart_table three_keys ∷ batch_transitions two_tries three_keys ∷ [])
+    ≡ 9 ∷ 39 ∷ 12 ∷ []
 transitions_of_batch = refl
