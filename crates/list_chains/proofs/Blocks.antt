@@ -117,7 +117,8 @@ module _ (value : ℕ → ℕ → FieldValue) (test : FieldValue → Bool) (tota
         | inl e ↦ rw (e, here) (whole_block span (2 ^ suc free) base x e)
         | inr e ↦ elim (cases_Bool (ltb span.high base || leb (base + 2 ^ suc free) span.low)) [
           | inl f ↦ rw (e, f) (no_block span (2 ^ suc free) base x f)
-          | inr f ↦ rw (e, f) (list_any-append test (blocks_of value free base span) (blocks_of value free (base + 2 ^ free) span)
+          | inr f ↦ rw (e, f) (
+              list_any-append test (blocks_of value free base span) (blocks_of value free (base + 2 ^ free) span)
               ∙ rw (
                 blocks_cover free base (q + q) (omega (arith, within))
                     (first_half (2 ^ free) (2 ^ suc free) q base twice multiple)

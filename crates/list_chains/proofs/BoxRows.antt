@@ -72,7 +72,8 @@ pub span_is : (kind : FieldKind) (size : ℕ) (span : Span) (x : ℕ) → x < 2 
 span_is kinds.Range size span x small = or_false (in_span span x)
 span_is kinds.Mask size span x small =
     blocks_cover (block kinds.Mask (8 * size)) (λ value. field_match value size x) (8 * size) x
-    (λ free q within fits. mask_blocks size x free q within) (8 * size) 0 0 (omega arith) (omega arith) (omega arith) span
+    (λ free q within fits. mask_blocks size x free q within) (8 * size) 0 0 (omega arith) (omega arith)
+    (omega arith) span
     ∙ all_of_block (2 ^ (8 * size)) x (in_span span x) small
 span_is kinds.Bitmask size span x small =
     blocks_cover (block kinds.Bitmask (8 * size)) (λ value. field_match value size x) (8 * size) x
@@ -133,19 +134,22 @@ or_and true false false = refl
 or_and false b c = refl
 
 -- a value before each of some rests
-one_before : (def : FieldDef) (defs : List FieldDef) (key : List ℕ) (value : FieldValue) (rests : List (List FieldValue)) →
+one_before : (def : FieldDef) (defs : List FieldDef) (key : List ℕ) (value : FieldValue)
+    (rests : List (List FieldValue)) →
     list_any (λ values. rule_match (def ∷ defs) values key) (map (λ rest. value ∷ rest) rests)
     ≡ (field_match value def.size (number_of (take def.size key))
     && list_any (λ values. rule_match defs values (drop def.size key)) rests)
 one_before def defs key value [] = sym (and_false (field_match value def.size (number_of (take def.size key))))
 one_before def defs key value (rest ∷ rests) =
-    ap (λ b. field_match value def.size (number_of (take def.size key)) && rule_match defs rest (drop def.size key) || b)
+    ap (λ b.
+    field_match value def.size (number_of (take def.size key)) && rule_match defs rest (drop def.size key) || b)
     (one_before def defs key value rests)
     ∙ and_or (field_match value def.size (number_of (take def.size key))) (rule_match defs rest (drop def.size key))
     (list_any (λ values. rule_match defs values (drop def.size key)) rests)
 
 -- each value before each of some rests
-each_is : (def : FieldDef) (defs : List FieldDef) (key : List ℕ) (values : List FieldValue) (rests : List (List FieldValue)) →
+each_is : (def : FieldDef) (defs : List FieldDef) (key : List ℕ) (values : List FieldValue)
+    (rests : List (List FieldValue)) →
     list_any (λ values. rule_match (def ∷ defs) values key) (each_before values rests)
     ≡ (list_any (λ value. field_match value def.size (number_of (take def.size key))) values
     && list_any (λ values. rule_match defs values (drop def.size key)) rests)
@@ -190,15 +194,18 @@ pub expanded_is : (layout : List FieldDef) (key : List ℕ) (entries : List (Ent
     ≡ first_answer (λ box. in_box layout box key) entries
 expanded_is layout key [] bytes = refl
 expanded_is layout key (entry ∷ entries) bytes =
-    first_of_rows (λ values. rule_match layout values key) entry.userdata (box_rows layout entry.box) (expanded layout entries)
+    first_of_rows (λ values. rule_match layout values key) entry.userdata (box_rows layout entry.box)
+    (expanded layout entries)
     ∙ rw (box_is layout entry.box key bytes, expanded_is layout key entries bytes) refl
 
 -- the box of all keys
-pub in_whole : (layout : List FieldDef) (key : List ℕ) → are_bytes key ≡ true → in_box layout (whole_box layout) key ≡ true
+pub in_whole : (layout : List FieldDef) (key : List ℕ) → are_bytes key ≡ true →
+    in_box layout (whole_box layout) key ≡ true
 in_whole [] key bytes = refl
 in_whole (def ∷ defs) key bytes =
     let n : ℕ = number_of (take def.size key) in
     let small : n < 256 ^ def.size = rw (← bytes_as_bits def.size) (field_small def.size key bytes) in
-    and_from (in_span (record { low = 0; high = 256 ^ def.size - 1 }) n) (in_box defs (whole_box defs) (drop def.size key))
+    and_from (in_span (record { low = 0; high = 256 ^ def.size - 1 }) n)
+    (in_box defs (whole_box defs) (drop def.size key))
     (grind (arith, leb_tells 0 n, leb_tells n (256 ^ def.size - 1), small))
     (in_whole defs (drop def.size key) (bytes_dropped def.size key bytes))

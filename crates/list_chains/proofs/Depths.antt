@@ -12,11 +12,6 @@ use Rattle.list_chains.specs.Chains.{ListRule, at_or, or_answer, target_answers,
 use Rattle.list_chains.specs.Jumps.{led_to, leads_well, shallow}
 use Rattle.list_chains.specs.DepthLaws.{DepthsAnswerAlike, each_box, ManyBoxesAreOneRule, others, OthersAreTheOthers}
 
--- nothing is twice nothing
-same_twice : {A : Type 0} (b : Bool) (x : A) → cond b x x ≡ x
-same_twice true x = refl
-same_twice false x = refl
-
 module _ {B : Type 0} (holds : B → Bool) where
   -- the answer of the chain of a place
   answer_at : (decisions : List (Option ℕ)) (cs : List (List (ListRule B))) (place : ℕ) →

@@ -81,7 +81,8 @@ module _ {B : Type 0} (holds : B → Bool) where
       IsLeave leave answer →
       (met : B) → holds met ≡ false → first_answer holds (target_flat flats userdata target after leave met) ≡ None
   target_outside flats decisions are userdata Decide after leave first answer afters leaves met e = rw e refl
-  target_outside flats decisions are userdata Return after leave first answer afters leaves met e = rw (leaves met, e) refl
+  target_outside flats decisions are userdata Return after leave first answer afters leaves met e =
+      rw (leaves met, e) refl
   target_outside flats decisions are userdata (Jump place) after leave first answer afters leaves met e =
       (are place).outside met after first afters e
   target_outside flats decisions are userdata (Go place) after leave first answer afters leaves met e =
@@ -129,7 +130,8 @@ module _ {B : Type 0} (holds : B → Bool) where
 
   module _ (meet : B → B → Option B) (is_meet : IsMeet holds meet) where
     -- a packet is in what a box shares with some others if it is in the box, and in one of them
-    shared_any : (met : B) (boxes : List B) → list_any holds (shared meet met boxes) ≡ (holds met && list_any holds boxes)
+    shared_any : (met : B) (boxes : List B) →
+        list_any holds (shared meet met boxes) ≡ (holds met && list_any holds boxes)
     shared_any met [] = sym (and_false (holds met))
     shared_any met (box ∷ boxes) =
         before (meet met box)
@@ -192,7 +194,8 @@ module _ {B : Type 0} (holds : B → Bool) where
               ≡ answer_or (first_answer holds here) (answer_or decision answer) =
               rw (
                 first_append here (rules_flat meet flats rules b leave),
-                answer_or_twice (first_answer holds here) (first_answer holds (rules_flat meet flats rules b leave)) answer,
+                answer_or_twice (first_answer holds here) (first_answer holds (rules_flat meet flats rules b leave))
+                    answer,
                 rest.inside b leave answer leaves e,
               ) refl in
               split ∙ elim (cases_Bool (holds rule.inside)) [

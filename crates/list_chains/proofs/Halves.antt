@@ -1,11 +1,9 @@
 -- Blocks of a span by what it takes, and powers of two as code writes them.
-use Rattle.std.proofs.Common.{◌≡◌, ℕ, zero, suc, ◌+◌, ◌-◌, ◌^◌, ◌≤◌, ◌<◌, [], ◌∷◌, ◌++◌, true, false}
-use Rattle.std.proofs.Common.{refl, arith}
+use Rattle.std.proofs.Common.{◌≡◌, ℕ, zero, suc, ◌+◌, ◌-◌, ◌^◌, ◌≤◌, ◌<◌, ◌++◌, false, refl, arith}
 use Rattle.std.proofs.Math.Nat.{pow-le-pow_right, two-pow-succ}
 use Rattle.std.proofs.lemmas.Bool.Decides.{leb_tells}
 use Rattle.field_defs.specs.declared.field.FieldValue.{FieldValue}
 use Rattle.list_chains.specs.declared.span.Span.{Span}
-use Rattle.list_chains.specs.Spans.{in_span}
 use Rattle.list_chains.specs.Values.{takes_all, takes_none, blocks_of}
 
 -- a power up to the 64th
@@ -20,37 +18,6 @@ power_within m n within = pow-le-pow_right (omega arith) within
 pub power_half : (n : ℕ) → 0 < n → 2 ^ n ≡ 2 ^ (n - 1) + 2 ^ (n - 1)
 power_half zero some = absurd (omega (arith, some))
 power_half (suc n) some = let e : suc n - 1 ≡ n = omega arith in rw e (two-pow-succ n)
-
--- a block that a span takes
-pub blocks_whole : (value : ℕ → ℕ → FieldValue) (free base : ℕ) (span : Span) → takes_all base free span ≡ true →
-    blocks_of value free base span ≡ value free base ∷ []
-blocks_whole value zero base span all =
-    let here : in_span span base ≡ true = grind (
-      arith,
-      leb_tells span.low base,
-      leb_tells (base + 2 ^ 0) (span.high + 1),
-      leb_tells base span.high,
-      all,
-    ) in
-    rw here refl
-blocks_whole value (suc free) base span all = rw all refl
-
--- a block of which it takes nothing
-pub blocks_none : (value : ℕ → ℕ → FieldValue) (free base : ℕ) (span : Span) → takes_all base free span ≡ false →
-    takes_none base free span ≡ true → blocks_of value free base span ≡ []
-blocks_none value zero base span all none =
-    let here : in_span span base ≡ false = grind (
-      arith,
-      leb_tells span.low base,
-      leb_tells (base + 2 ^ 0) (span.high + 1),
-      leb_tells base span.high,
-      leb_tells (suc span.high) base,
-      leb_tells (base + 2 ^ 0) span.low,
-      all,
-      none,
-    ) in
-    rw here refl
-blocks_none value (suc free) base span all none = rw (all, none) refl
 
 -- a block of one number is taken or not
 pub some_free : (free base : ℕ) (span : Span) → takes_all base free span ≡ false → takes_none base free span ≡ false →

@@ -117,7 +117,8 @@ rests_lawful : (def : FieldDef) (defs : List FieldDef) (value : FieldValue) (res
     IsLawfulValue def value → AllByRecursion (AllZip IsLawfulValue defs) rests →
     AllByRecursion (AllZip IsLawfulValue (def ∷ defs)) (map (λ rest. value ∷ rest) rests)
 rests_lawful def defs value [] lawful all = tt
-rests_lawful def defs value (rest ∷ rests) lawful all = ((lawful, all.0), rests_lawful def defs value rests lawful all.1)
+rests_lawful def defs value (rest ∷ rests) lawful all =
+    ((lawful, all.0), rests_lawful def defs value rests lawful all.1)
 
 -- and each of some values
 each_lawful : (def : FieldDef) (defs : List FieldDef) (values : List FieldValue) (rests : List (List FieldValue)) →
@@ -162,7 +163,8 @@ some_passes test (value ∷ values) any = omega arith
 values_some : (def : FieldDef) (span : Span) → IsFieldSpan def span → 1 ≤ length (span_values def span)
 values_some def span it =
     some_passes (λ value. field_match value def.size span.low) (span_values def span)
-    (span_is def.kind def.size span span.low (let filled = it.filled in let small = it.within in omega (arith, filled, small))
+    (span_is def.kind def.size span span.low
+    (let filled = it.filled in let small = it.within in omega (arith, filled, small))
     ∙ and_from _ _ (le-leb span.low span.low (omega arith)) (le-leb span.low span.high it.filled))
 
 -- so many rows or more

@@ -34,7 +34,8 @@ pub ranked_append : (priority : ℕ) (xs ys : List (Entry (List FieldValue))) �
 ranked_append priority [] ys = let all : priority - 0 ≡ priority = omega arith in rw all refl
 ranked_append priority (x ∷ xs) ys =
     let left : priority - 1 - length xs ≡ priority - suc (length xs) = omega arith in
-    ap (λ rules. rule_of priority x.userdata x.box ∷ rules) (ranked_append (priority - 1) xs ys ∙ ap (λ n. ranked (priority - 1) xs ++ ranked n ys) left)
+    ap (λ rules. rule_of priority x.userdata x.box ∷ rules)
+    (ranked_append (priority - 1) xs ys ∙ ap (λ n. ranked (priority - 1) xs ++ ranked n ys) left)
 
 -- as many rows with an answer as without
 pub length_answered : (userdata : ℕ) (rows : List (List FieldValue)) → length (answered userdata rows) ≡ length rows
@@ -42,7 +43,8 @@ length_answered userdata [] = refl
 length_answered userdata (row ∷ rows) = ap (λ n. suc n) (length_answered userdata rows)
 
 -- what rules before others are
-record IsBefore (rules : List RuleView) (others : Result (List RuleView) LimitFault) (all : List RuleView) : Type 0 where
+record IsBefore (rules : List RuleView) (others : Result (List RuleView) LimitFault) (all : List RuleView)
+    : Type 0 where
   rest : List RuleView
   made_rest : others ≡ Ok rest
   are : all ≡ rules ++ rest
@@ -104,21 +106,24 @@ module _ (layout : List FieldDef) (chains : Chains) (policy : ℕ) (key : List �
         first_answer holds entries ≡ first_answer holds (tasks_flat chains policy tasks)
 
   -- after a task that is passed over
-  passed_over : (room : ℕ) (last : Option (List Span)) (task : TaskView) (tasks : List TaskView) (rules : List RuleView) →
+  passed_over : (room : ℕ) (last : Option (List Span)) (task : TaskView) (tasks : List TaskView)
+      (rules : List RuleView) →
       is_decided last task.within ≡ true → Answers room last tasks rules → Answers room last (task ∷ tasks) rules
   passed_over room last task tasks rules is rest = record {
     entries = rest.entries;
     are = rest.are;
     first = λ outside.
         rest.first outside
-        ∙ sym (first_append holds (act_flat chains policy task.act task.within task.frames) (tasks_flat chains policy tasks)
+        ∙ sym (first_append holds (act_flat chains policy task.act task.within task.frames)
+        (tasks_flat chains policy tasks)
         ∙ rw (act_outside task.act task.within task.frames (decided_outside last task.within is outside)) refl);
   }
 
   -- after an answer
   written : (making : Making) (room userdata : ℕ) (last : Option (List Span)) (box : List Span) (frames : List Frame)
       (tasks : List TaskView) (rules : List RuleView) →
-      ((room : ℕ) (rules : List RuleView) → making room (Some box) tasks ≡ Ok rules → Answers room (Some box) tasks rules) →
+      ((room : ℕ) (rules : List RuleView) → making room (Some box) tasks ≡ Ok rules →
+      Answers room (Some box) tasks rules) →
       rows_made making room userdata box tasks (box_rows layout box) ≡ Ok rules →
       Answers room last (record { act = Answer userdata; within = box; frames = frames } ∷ tasks) rules
   written making room userdata last box frames tasks rules goes_on is =
@@ -126,8 +131,8 @@ module _ (layout : List FieldDef) (chains : Chains) (policy : ℕ) (key : List �
       elim (cases_Bool (ltb room (length rows))) [
         | inl above ↦ absurd (let fault = rw above at is in cc)
         | inr fits ↦
-            let all = before_is (ranked room (answered userdata rows)) (making (room - length rows) (Some box) tasks) rules
-            (rw fits at is) in
+            let all = before_is (ranked room (answered userdata rows)) (making (room - length rows) (Some box) tasks)
+            rules (rw fits at is) in
             let rest = goes_on (room - length rows) all.rest all.made_rest in
             record {
               entries = record { box = box; userdata = userdata } ∷ rest.entries;

@@ -87,11 +87,3 @@ outside (x ∷ xs) (y ∷ ys) h = rw (outside xs ys (λ e. h (ap (λ n. suc n) e
     and_none : (b : Bool) → (b && false) ≡ false
     and_none true = refl
     and_none false = refl
-
--- whether a box lies in another from a place on is told by the spans there, and by those after it
-pub inside_from : (ones others : List Span) (i : ℕ) → i < length ones → length ones ≡ length others →
-    is_inside (drop i ones) (drop i others)
-    ≡ (lies_in (get_or ones i zero_span) (get_or others i zero_span)
-    && is_inside (drop (suc i) ones) (drop (suc i) others))
-inside_from ones others i within same =
-    rw (drop-cons ones i zero_span within, drop-cons others i zero_span (rw (← same) within)) refl

@@ -76,7 +76,8 @@ module _ (chains : Chains) (policy : ℕ) where
       (frames_flat chains policy frames)) (frames_flat chains policy frames met) (tasks_flat chains policy tasks))
 
   -- what is left out is written before the rest
-  parts_is : (after : List Frame) (parts : List (List Span)) (rest : List (Entry (List Span))) (tasks all : List TaskView) →
+  parts_is : (after : List Frame) (parts : List (List Span)) (rest : List (Entry (List Span)))
+      (tasks all : List TaskView) →
       tasks_flat chains policy all ≡ rest ++ tasks_flat chains policy tasks →
       tasks_flat chains policy (parts_tasks after parts all)
       ≡ parts_flat (frames_flat chains policy after) parts rest ++ tasks_flat chains policy tasks
@@ -114,7 +115,8 @@ module _ (chains : Chains) (policy : ℕ) where
       let left : frame_rules chains next ≡ rules = drop_next frame.rule (at_or chains frame.chain []) rule rules is in
       let leave = frames_flat chains policy frames in
       let flats = chains_flat box_meet frame.depth chains in
-      met_is rule next frames (box_meet box rule.inside) (record { act = Follow next; within = box; frames = frames } ∷ tasks)
+      met_is rule next frames (box_meet box rule.inside)
+      (record { act = Follow next; within = box; frames = frames } ∷ tasks)
       ∙ ap (λ rs. met_flat box_meet flats rule (λ m. rules_flat box_meet flats rs m leave ++ leave m) leave
       (box_meet box rule.inside) ++ (rules_flat box_meet flats rs box leave ++ tasks_flat chains policy tasks)) left
       ∙ sym (append_assoc

@@ -12,7 +12,7 @@ use Rattle.field_defs.specs.Lawful.{IsLayout}
 use Rattle.field_defs.specs.declared.field.FieldDef.{FieldDef}
 use Rattle.field_defs.specs.declared.field.FieldValue.{FieldValue}
 use Rattle.rule_set.specs.declared.rule.RuleTag.{RuleTag}
-use Rattle.rule_set.specs.Rule.{RuleView, RuleSetView}
+use Rattle.rule_set.specs.Rule.{RuleView}
 use Rattle.rule_set.specs.Fault.{rule_fault, categories}
 use Rattle.rule_set.specs.Lawful.{IsLawfulValue}
 use Rattle.rule_set.specs.Limits.{max_priority}
@@ -21,7 +21,7 @@ use Rattle.rule_set.proofs.Offered.{faultless_rules, some_category}
 use Rattle.table_sizes.specs.Sizes.{max_rules}
 use Rattle.list_chains.specs.declared.span.Span.{Span}
 use Rattle.list_chains.specs.declared.fault.LimitFault.{LimitFault}
-use Rattle.list_chains.specs.declared.fault.LimitFault.TheVariants.{TooManyRules, TooManySteps}
+use Rattle.list_chains.specs.declared.fault.LimitFault.TheVariants.{TooManySteps}
 use Rattle.list_chains.specs.declared.task.Frame.{Frame}
 use Rattle.list_chains.specs.declared.task.Act.{Act}
 use Rattle.list_chains.specs.declared.task.Act.TheVariants.{Follow, Leave, Answer}
@@ -76,7 +76,8 @@ rows_more old now more userdata rows k d {row = row} below is so_far pushed =
 -- a row of lawful values is a lawful rule
 pub row_lawful : (layout : List FieldDef) (priority userdata : ℕ) (row : List FieldValue) → IsLayout layout →
     priority ≤ max_rules → AllZip IsLawfulValue layout row →
-    rule_fault layout (record { category_mask = every_category; priority = pos priority; userdata = userdata }) row ≡ None
+    rule_fault layout (record { category_mask = every_category; priority = pos priority; userdata = userdata }) row
+    ≡ None
 row_lawful layout priority userdata row lawful within values =
     let its : RuleTag = record { category_mask = every_category; priority = pos priority; userdata = userdata } in
     let category : list_any (is_in_category its) categories ≡ true = sym (some_category its) in
@@ -110,14 +111,6 @@ written making old new userdata box tasks rows room is =
     let fits : ltb all (length rows) ≡ false = le-ltb all (length rows) room in
     rw fits (before_twice old (ranked all (answered userdata rows)) (making (all - length rows) (Some box) tasks)
     ∙ (λ i. rules_before (sym is i) (making (left i) (Some box) tasks)))
-
--- and others aren't
-pub not_written : (making : Making) (old : List RuleView) (room userdata : ℕ) (box : List Span) (tasks : List TaskView)
-    (rows : List (List FieldValue)) → room < length rows →
-    rules_before old (rows_made making room userdata box tasks rows) ≡ Err TooManyRules
-not_written making old room userdata box tasks rows above =
-    let full : ltb room (length rows) ≡ true = le-leb (suc room) (length rows) above in
-    rw full refl
 
 module _ (layout : List FieldDef) (chains : Chains) (policy steps : ℕ) where
   -- where nothing is left, nothing more is made
@@ -182,7 +175,8 @@ turn_passes chains policy old task rest kept is decided =
       kept = record { few = kept.few; boxes = boxes.1 };
       layout = refl;
       is = λ steps.
-          ap (λ tasks. rules_before old.set.rules (made old.set.layout chains policy (suc steps) room old.last tasks)) is
+          ap (λ tasks.
+          rules_before old.set.rules (made old.set.layout chains policy (suc steps) room old.last tasks)) is
           ∙ ap (rules_before old.set.rules)
           (made_decided old.set.layout chains policy steps room old.last task rest decided);
     }
@@ -229,7 +223,8 @@ write_turns : (chains : Chains) (policy userdata : ℕ) (old : Turning) (task : 
 write_turns chains policy userdata old task rest new More is undecided answer same it = λ steps.
     acts chains policy steps old task rest is undecided
     ∙ ap (λ act. rules_before old.set.rules (act_made old.set.layout chains policy
-    (made old.set.layout chains policy steps) (max_rules - length old.set.rules) old.last act task.within task.frames rest))
+    (made old.set.layout chains policy steps) (max_rules - length old.set.rules) old.last act task.within
+    task.frames rest))
     answer
     ∙ it (made old.set.layout chains policy steps)
     ∙ ap (λ layout. with_rest (made layout chains policy steps) new) (sym same)
@@ -237,7 +232,8 @@ write_turns chains policy userdata old task rest new Done is undecided answer sa
 write_turns chains policy userdata old task rest new Full is undecided answer same it = λ steps.
     acts chains policy steps old task rest is undecided
     ∙ ap (λ act. rules_before old.set.rules (act_made old.set.layout chains policy
-    (made old.set.layout chains policy steps) (max_rules - length old.set.rules) old.last act task.within task.frames rest))
+    (made old.set.layout chains policy steps) (max_rules - length old.set.rules) old.last act task.within
+    task.frames rest))
     answer
     ∙ it (made old.set.layout chains policy steps)
 
@@ -259,8 +255,8 @@ rows_made_of making old userdata box rows =
     rules_before old.set.rules (rows_made making (max_rules - length old.set.rules) userdata box old.tasks rows)
 
 -- rows that were put after the others
-pub rows_written : (old new : Turning) (userdata : ℕ) (box : List Span) (rows : List (List FieldValue)) → IsTurning old →
-    rows ≡ box_rows old.set.layout box → length rows ≤ max_rules - length old.set.rules →
+pub rows_written : (old new : Turning) (userdata : ℕ) (box : List Span) (rows : List (List FieldValue)) →
+    IsTurning old → rows ≡ box_rows old.set.layout box → length rows ≤ max_rules - length old.set.rules →
     new.set.layout ≡ old.set.layout →
     new.set.rules ≡ old.set.rules ++ ranked (max_rules - length old.set.rules) (answered userdata rows) →
     new.last ≡ Some box → new.tasks ≡ old.tasks → Writes userdata box old new More
@@ -284,24 +280,10 @@ rows_written old new userdata box rows kept are room same is last tasks =
           ∙ (λ i. rules_before new.set.rules (making (max_rules - length new.set.rules) (sym last i) (sym tasks i)));
     }
 
--- rows for which there is no room
-pub rows_refused : (old new : Turning) (userdata : ℕ) (box : List Span) → IsTurning old →
-    max_rules - length old.set.rules < length (box_rows old.set.layout box) →
-    new.set ≡ old.set → new.tasks ≡ old.tasks → Writes userdata box old new Full
-rows_refused old new userdata box kept above set tasks = record {
-  kept = record {
-    few = subst (λ (s : RuleSetView). length s.rules ≤ max_rules) (sym set) kept.few;
-    boxes = subst (λ (s : RuleSetView). HaveBoxes s.layout new.tasks) (sym set)
-        (subst (HaveBoxes old.set.layout) (sym tasks) kept.boxes);
-  };
-  layout = ap (λ (s : RuleSetView). s.layout) set;
-  is = λ making. not_written making old.set.rules (max_rules - length old.set.rules) userdata box old.tasks
-      (box_rows old.set.layout box) above;
-}
-
 -- where nothing is left, the turning is done
 pub turn_ends : (chains : Chains) (policy : ℕ) (old : Turning) (tasks : List TaskView) → IsTurning old →
-    old.tasks ≡ [] → tasks ≡ [] → Turns chains policy old (record { set = old.set; last = old.last; tasks = tasks }) Done
+    old.tasks ≡ [] → tasks ≡ [] →
+    Turns chains policy old (record { set = old.set; last = old.last; tasks = tasks }) Done
 turn_ends chains policy old tasks kept none still = record {
   kept = record { few = kept.few; boxes = subst (HaveBoxes old.set.layout) (sym still) tt };
   layout = refl;
@@ -331,7 +313,8 @@ start_made layout chains policy steps turning tasks same none last are =
 -- each of the sixteen categories is a bit of the mask
 pub every_bit : (category : ℕ) → category < 16 → bit_at every_category category ≡ 1
 every_bit category small =
-    let tested = AllPass-from_list_all (λ c. eqb (bit_at every_category c) 1) (range_with_len 0 16) refl category 0 small in
+    let tested = AllPass-from_list_all (λ c. eqb (bit_at every_category c) 1) (range_with_len 0 16) refl category 0
+    small in
     let zero : 0 + category ≡ category = omega arith in
     let it : get_or (range_with_len 0 16) category 0 ≡ category = get_or-range_with_len 0 16 category 0 small ∙ zero in
     eqb-true (bit_at every_category category) 1 (ap (λ c. eqb (bit_at every_category c) 1) (sym it) ∙ tested)

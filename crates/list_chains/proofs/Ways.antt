@@ -1,9 +1,9 @@
 -- The way by first rules that lead to chains without a mark, turn by turn.
-use Rattle.std.proofs.Common.{◌≡◌, ℕ, zero, suc, ◌-◌, ◌≤◌, ◌<◌, List, [], ◌∷◌, length, get_or, Bool, true, false, Some, None}
+use Rattle.std.proofs.Common.{◌≡◌, ℕ, zero, suc, ◌-◌, ◌≤◌, ◌<◌, List, [], ◌∷◌, length, get_or, Bool, true, false, Some}
 use Rattle.std.proofs.Common.{refl, arith, leb}
 use Rattle.std.proofs.lemmas.Bool.{le-leb}
 use Rattle.std.proofs.lemmas.Bool.Decides.{leb_tells}
-use Rattle.list_chains.specs.declared.fault.ChainsFault.TheVariants.{NoChain, Loop}
+use Rattle.list_chains.specs.declared.fault.ChainsFault.TheVariants.{NoChain}
 use Rattle.list_chains.specs.Chains.{at_or}
 use Rattle.list_chains.specs.Tasks.{Chains}
 use Rattle.list_chains.specs.Jumps.{bad_chain, bad_place, way}
@@ -19,14 +19,7 @@ at_or_in (x ∷ xs) (suc place) other d within = at_or_in xs place other d (omeg
 not_at_least : (a b : ℕ) → a < b → leb b a ≡ false
 not_at_least a b below = grind (arith, leb_tells b a, below)
 
--- a rule that leads nowhere
-pub way_stays : (turns : ℕ) (chains : Chains) (marks : List Bool) (place : ℕ) → 0 < turns →
-    bad_chain marks (at_or chains place []) ≡ None →
-    way turns chains marks place ≡ Loop (bad_place marks place (at_or chains place []))
-way_stays zero chains marks place some none = absurd (omega (arith, some))
-way_stays (suc turns) chains marks place some none = rw none refl
-
--- one that leads to a chain that isn't there
+-- a rule that leads to a chain that isn't there
 pub way_leaves : (turns : ℕ) (chains : Chains) (marks : List Bool) (place next : ℕ) → 0 < turns →
     bad_chain marks (at_or chains place []) ≡ Some next → length chains ≤ next →
     way turns chains marks place ≡ NoChain (bad_place marks place (at_or chains place []))

@@ -47,7 +47,8 @@ rules_answer holds chains (rule ∷ rules) =
     else rules_answer holds chains rules
 
 -- what each chain answers, where jumps lead through so many chains at most
-abbrev pub chains_answer : {B : Type 0} → (B → Bool) → ℕ → List (List (ListRule B)) → List (Option ℕ)
+abbrev pub chains_answer : {B : Type 0} → (B → Bool) → ℕ → List (List (ListRule B)) →
+    List (Option ℕ)
 chains_answer holds zero chains = []
 chains_answer holds (suc depth) chains =
     map (rules_answer holds (chains_answer holds depth chains)) chains

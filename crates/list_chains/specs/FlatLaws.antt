@@ -10,7 +10,8 @@ holds_in holds (Some box) = holds box
 
 -- what two boxes have in common has the packets of both, and no others
 abbrev pub IsMeet : {B : Type 0} → (B → Bool) → (B → B → Option B) → Type 0
-IsMeet {B} holds meet = (one other : B) → holds_in holds (meet one other) ≡ (holds one && holds other)
+IsMeet {B} holds meet =
+    (one other : B) → holds_in holds (meet one other) ≡ (holds one && holds other)
 
 -- The first entry of the flat list that a packet is in has the answer of the chains.
 abbrev pub TheFlatListAnswers : Type 0 → Type 0

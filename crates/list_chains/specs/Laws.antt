@@ -21,4 +21,5 @@ TheRulesAnswerAsTheChains =
     list_all (λ byte. nat_lt byte 256) key ≡ true → bit_at every_category category ≡ 1 →
     made layout chains policy steps max_rules None (first_tasks depth start (whole_box layout))
     ≡ Ok rules →
-    verdict layout rules key category ≡ decides (λ box. in_box layout box key) depth chains start policy
+    verdict layout rules key category
+    ≡ decides (λ box. in_box layout box key) depth chains start policy

@@ -12,8 +12,8 @@ use Rattle.list_chains.specs.Tasks.{Chains, TaskView, frame_rules, task_tasks}
 abbrev pub frames_flat : Chains → ℕ → List Frame → List Span → List (Entry (List Span))
 frames_flat chains policy [] = policy_entry policy
 frames_flat chains policy (frame ∷ frames) =
-    λ box. rules_flat box_meet (chains_flat box_meet frame.depth chains) (frame_rules chains frame) box
-    (frames_flat chains policy frames)
+    λ box. rules_flat box_meet (chains_flat box_meet frame.depth chains) (frame_rules chains frame)
+    box (frames_flat chains policy frames)
     ++ frames_flat chains policy frames box
 
 -- what a task writes

@@ -43,7 +43,8 @@ task_before act within frames tasks = record { act = act; within = within; frame
 abbrev pub enter : ℕ → ℕ → List Span → List Frame → List TaskView → List TaskView
 enter depth place met frames tasks =
     if depth == 0 then tasks
-    else task_before (Follow (record { depth = depth - 1; chain = place; rule = 0 })) met frames tasks
+    else task_before (Follow (record { depth = depth - 1; chain = place; rule = 0 })) met frames
+    tasks
 
 -- what a rule does with the packets of a box that it catches, by the frame after it and those below
 abbrev pub target_tasks : ℕ → Target → Frame → List Frame → List Span → List TaskView →
@@ -58,7 +59,8 @@ target_tasks userdata (Go place) next frames met tasks =
 -- those of boxes that a rule leaves out go on after it
 abbrev pub parts_tasks : List Frame → List (List Span) → List TaskView → List TaskView
 parts_tasks after [] tasks = tasks
-parts_tasks after (part ∷ parts) tasks = parts_tasks after parts (task_before Leave part after tasks)
+parts_tasks after (part ∷ parts) tasks =
+    parts_tasks after parts (task_before Leave part after tasks)
 
 -- what a rule does with what its box and another have in common
 abbrev pub met_tasks : ListRule (List Span) → Frame → List Frame → Option (List Span) →
@@ -73,7 +75,8 @@ abbrev pub rule_tasks : List (ListRule (List Span)) → Frame → List Frame →
     List TaskView → List TaskView
 rule_tasks [] next frames box tasks = tasks
 rule_tasks (rule ∷ rules) next frames box tasks =
-    met_tasks rule next frames (box_meet box rule.inside) (task_before (Follow next) box frames tasks)
+    met_tasks rule next frames (box_meet box rule.inside)
+    (task_before (Follow next) box frames tasks)
 
 -- they leave their chain: to the rule after the last jump, or to the policy
 abbrev pub leave_tasks : ℕ → List Frame → List Span → List TaskView → List TaskView

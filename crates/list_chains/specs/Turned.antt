@@ -88,12 +88,12 @@ pub record Turns (chains : Chains) (policy : ℕ) (old new : Turning) (turn : Tu
 abbrev pub WriteIs : ℕ → List Span → Turning → Turning → Turn → Type 0
 WriteIs userdata box old new Full =
     (making : Making) →
-    rules_before old.set.rules (rows_made making (max_rules - length old.set.rules) userdata box old.tasks
-    (box_rows old.set.layout box)) ≡ Err TooManyRules
+    rules_before old.set.rules (rows_made making (max_rules - length old.set.rules) userdata box
+    old.tasks (box_rows old.set.layout box)) ≡ Err TooManyRules
 WriteIs userdata box old new More =
     (making : Making) →
-    rules_before old.set.rules (rows_made making (max_rules - length old.set.rules) userdata box old.tasks
-    (box_rows old.set.layout box)) ≡ with_rest making new
+    rules_before old.set.rules (rows_made making (max_rules - length old.set.rules) userdata box
+    old.tasks (box_rows old.set.layout box)) ≡ with_rest making new
 WriteIs userdata box old new Done = ⊥
 
 -- it keeps what holds at each step, and the layout

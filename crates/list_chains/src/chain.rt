@@ -48,7 +48,8 @@ impl ChainRule {
     /// A rule that catches the keys of a box but for those of some others. Its userdata is the
     /// answer for packets that it decides, as the number of its line.
     pub fn new(userdata: u32, inside: SpanBox, but: Vec<SpanBox>, target: Target) -> ChainRule
-        ensures { result ≡ record { userdata = userdata; inside = inside; but = but.items; target = target } }
+        ensures { result
+            ≡ record { userdata = userdata; inside = inside; but = but.items; target = target } }
     {
         ChainRule {
             userdata,

@@ -1,4 +1,5 @@
-//! chains of firewall rules, and a chain that packets come to → one rule set that answers as they do
+//! chains of firewall rules, and a chain that packets come to → one rule set that answers as they
+//! do
 //!
 //! A chain's rules are asked in order; a rule decides its packets, or sends them back or to another
 //! chain (iptables(8)). [`rules_of_chains`] makes one list of them whose first match decides. What

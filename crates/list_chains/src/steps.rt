@@ -33,7 +33,8 @@ pub(crate) fn put_steps(
 fn rule_of(chains: &[Chain], frame: Frame) -> Option<&ChainRule>
     ensures place { IfSome result (λ _. frame.rule + 1 < 2 ^ 64) }
     ensures rule { MatchOption result (frame_rules chains.now frame ≡ [])
-        (λ rule. frame_rules chains.now frame ≡ rule.now ∷ frame_rules chains.now (next_frame frame)) }
+        (λ rule. frame_rules chains.now frame
+        ≡ rule.now ∷ frame_rules chains.now (next_frame frame)) }
 {
     if frame.chain >= chains.len() {
         return None;
@@ -54,8 +55,8 @@ fn put_rule(
     frames: &[Frame],
     tasks: &mut Tasks,
 ) -> Result<(), AllocError>
-    ensures { OnOk result (tasks.new
-        ≡ rule_tasks (frame_rules chains.now frame) (next_frame frame) frames.now within tasks.old) }
+    ensures { OnOk result (tasks.new ≡ rule_tasks (frame_rules chains.now frame) (next_frame frame)
+        frames.now within tasks.old) }
 {
     let Some(rule) = rule_of(chains, frame) else {
         return Ok(());
@@ -86,7 +87,8 @@ fn put_met(
     met: SpanBox,
     tasks: &mut Tasks,
 ) -> Result<(), AllocError>
-    ensures { OnOk result (tasks.new ≡ parts_tasks (next ∷ frames.now) (shared box_meet met rule.now.but)
+    ensures { OnOk result (tasks.new
+        ≡ parts_tasks (next ∷ frames.now) (shared box_meet met rule.now.but)
         (target_tasks rule.now.userdata rule.now.target next frames.now met tasks.old)) }
 {
     let parts = shared(alloc, &met, rule.but())?;

@@ -72,7 +72,8 @@ impl Tasks {
 
     /// The next task, which is taken away.
     pub(crate) fn pop(&mut self) -> Option<Task>
-        ensures { MatchOption result ((self.old ≡ []) × (self.new ≡ [])) (λ task. self.old ≡ task_of task ∷ self.new) }
+        ensures { MatchOption result ((self.old ≡ []) × (self.new ≡ []))
+            (λ task. self.old ≡ task_of task ∷ self.new) }
     {
         self.kept.pop()
     }

@@ -74,7 +74,8 @@ pub fn rules_of_chains(
         → (fault ≡ ChainsFault.OutOfMemory) ⊎ (turned layout chains.now start policy ≡ Err fault) }
     ensures refused { (fault : ChainsFault) → turned layout chains.now start policy ≡ Err fault
         → (result ≡ Err fault) ⊎ (result ≡ Err ChainsFault.OutOfMemory) }
-    ensures on_loop { (at : RulePlace) → result ≡ Err (ChainsFault.Loop at) → IsOnLoop chains.now at }
+    ensures on_loop { (at : RulePlace) → result ≡ Err (ChainsFault.Loop at)
+        → IsOnLoop chains.now at }
 {
     let marks = ending(alloc, chains)?;
     if !is_marked(&marks, start) {
@@ -94,8 +95,9 @@ fn first_turning(
     depth: usize,
     start: usize,
 ) -> Result<Turning, AllocError>
-    ensures { IfOk result (λ turning. IsTurning turning × (turning.set.layout ≡ layout) × (turning.set.rules ≡ [])
-        × (turning.last ≡ None) × (turning.tasks ≡ first_tasks depth start (whole_box layout))) }
+    ensures { IfOk result (λ turning. IsTurning turning × (turning.set.layout ≡ layout)
+        × (turning.set.rules ≡ []) × (turning.last ≡ None)
+        × (turning.tasks ≡ first_tasks depth start (whole_box layout))) }
 {
     let mut tasks = Tasks::new(alloc);
     let whole = SpanBox::whole(alloc, &layout)?;
@@ -117,7 +119,8 @@ fn all_turns(
 ) -> Result<Result<RuleSet, LimitFault>, AllocError>
     requires { IsTurning turning }
     ensures { IfOk result (λ made. MatchResult made
-        (λ set. (set.layout ≡ turning.set.layout) × (left_made chains.now policy MAX_STEPS turning ≡ Ok set.rules))
+        (λ set. (set.layout ≡ turning.set.layout)
+        × (left_made chains.now policy MAX_STEPS turning ≡ Ok set.rules))
         (λ fault. left_made chains.now policy MAX_STEPS turning ≡ Err fault)) }
 {
     let mut turning = turning;
@@ -217,7 +220,11 @@ fn put_rows(alloc: Global, set: &mut RuleSet, userdata: u32, rows: &[Row]) -> Re
 /// The tag of a rule after so many others.
 fn tag_after(rules: usize, userdata: u32) -> RuleTag
     requires { rules ≤ max_rules }
-    ensures { result ≡ record { category_mask = every_category; priority = pos (max_rules - rules); userdata = userdata } }
+    ensures { result ≡ record {
+      category_mask = every_category;
+      priority = pos (max_rules - rules);
+      userdata = userdata;
+    } }
 {
     RuleTag {
         category_mask: ALL_CATEGORIES,

@@ -9,5 +9,6 @@ use Rattle.list_chains.proofs.span.meet_spans.Given as goal
 abbrev pub invariant-loop-place : goal.invariant-loop-place
 invariant-loop-place l =
     (spec.box_meet l.ones l.others
-    ≡ option_map (λ (rest : List Span). l.spans.items ++ rest) (spec.box_meet (drop l.place l.ones) (drop l.place l.others)))
+    ≡ option_map (λ (rest : List Span). l.spans.items ++ rest)
+    (spec.box_meet (drop l.place l.ones) (drop l.place l.others)))
     × (length l.ones ≡ length l.others)

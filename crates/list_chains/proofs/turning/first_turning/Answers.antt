@@ -21,11 +21,13 @@ returns c =
     let set = c.new-2.ensures in
     let layout : c.new-2.result.layout ≡ c.args.layout = ap (λ (s : RuleSetView). s.layout) set in
     let rules : c.new-2.result.rules ≡ [] = ap (λ (s : RuleSetView). s.rules) set in
-    let fits : Fits c.args.layout whole = subst (Fits c.args.layout) c.in_ok-whole.ensures.is c.in_ok-whole.ensures.fits in (
+    let fits : Fits c.args.layout whole =
+    subst (Fits c.args.layout) c.in_ok-whole.ensures.is c.in_ok-whole.ensures.fits in (
       record {
         few = rw rules (omega arith);
         boxes = subst (λ l. HaveBoxes l c.put_entry.new.tasks) (sym layout)
-            (subst (HaveBoxes c.args.layout) (sym tasks) (first_fit c.args.layout c.args.depth c.args.start whole fits));
+            (subst (HaveBoxes c.args.layout) (sym tasks)
+            (first_fit c.args.layout c.args.depth c.args.start whole fits));
       },
       layout,
       rules,

@@ -13,16 +13,16 @@ use Rattle.list_chains.proofs.turning.put_rows.Goals as goal
 pub tag_after-requires : goal.tag_after-requires
 tag_after-requires c =
     let below = c.loop-row-test.true in
-    let sized = rows_sized c.args.set.now.rules c.loop-row.set.rules c.args.userdata c.args.rows.now c.loop-row.row-index
-    (omega (arith, below)) c.loop-row.invariant.1 in
+    let sized = rows_sized c.args.set.now.rules c.loop-row.set.rules c.args.userdata c.args.rows.now
+    c.loop-row.row-index (omega (arith, below)) c.loop-row.invariant.1 in
     let room = c.requires.room in
     omega (arith, below, sized, room, c.len.ensures)
 
 pub push_lawful-requires-clause-room : goal.push_lawful-requires-clause-room
 push_lawful-requires-clause-room c =
     let below = c.loop-row-test.true in
-    let sized = rows_sized c.args.set.now.rules c.loop-row.set.rules c.args.userdata c.args.rows.now c.loop-row.row-index
-    (omega (arith, below)) c.loop-row.invariant.1 in
+    let sized = rows_sized c.args.set.now.rules c.loop-row.set.rules c.args.userdata c.args.rows.now
+    c.loop-row.row-index (omega (arith, below)) c.loop-row.invariant.1 in
     let room = c.requires.room in
     omega (arith, below, sized, room)
 

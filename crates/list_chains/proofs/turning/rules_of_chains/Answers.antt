@@ -29,8 +29,8 @@ returns-in-Ok-clause-rules c =
       layout = said.0 ∙ began.1;
       rules = rw marked (ap or_limit made_so);
       verdicts = λ key category bytes small.
-          rules_answer_as_the_chains layout chains (length chains) c.args.start c.args.policy MAX_STEPS c.in-Ok.set.rules
-          key category bytes (every_bit category small) made_so;
+          rules_answer_as_the_chains layout chains (length chains) c.args.start c.args.policy MAX_STEPS
+          c.in-Ok.set.rules key category bytes (every_bit category small) made_so;
     }
 
 pub returns-then-not-is_marked-clause-on_loop : goal.returns-then-not-is_marked-clause-on_loop

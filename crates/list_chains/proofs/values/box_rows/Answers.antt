@@ -30,8 +30,8 @@ bounds-spans-place c =
 pub span_values-requires : goal.span_values-requires
 span_values-requires c =
     let same = length-AllZip IsFieldSpan c.args.defs.now c.args.spans.now c.requires.spans in
-    (AllZip-place IsFieldSpan c.args.defs.now c.args.spans.now (length c.args.defs.now - 1 - c.loop-gone.gone) _ zero_span
-    c.requires.spans (omega (arith, same, c.loop-gone-test.true))).size
+    (AllZip-place IsFieldSpan c.args.defs.now c.args.spans.now (length c.args.defs.now - 1 - c.loop-gone.gone) _
+    zero_span c.requires.spans (omega (arith, same, c.loop-gone-test.true))).size
 
 pub returns-in-None : goal.returns-in-None
 returns-in-None c =
@@ -49,6 +49,7 @@ loop-gone-preserved c =
     let said = rw c.in-Some.is at c.in_ok-more.ensures in (
       said.0 ∙ more_rows layout c.args.spans.now c.loop-gone.gone _ zero_span c.deref.result.now
           c.deref-in-loop-gone.result.now c.requires.spans c.loop-gone-test.true
-          (c.deref.ensures.value ∙ c.in_ok-values.ensures) (c.deref-in-loop-gone.ensures.value ∙ c.loop-gone.invariant.0),
+          (c.deref.ensures.value ∙ c.in_ok-values.ensures)
+          (c.deref-in-loop-gone.ensures.value ∙ c.loop-gone.invariant.0),
       said.1,
     )
