@@ -39,7 +39,7 @@ RUNS = {
     "session": ["session", "long.script"],
 }
 # The walk by lanes takes about five thirds of what the other takes, and the tables of the run the same.
-LANES_TO_SCALAR = 1.2
+LANES_TO_SCALAR = 1.1
 
 
 def make_files(folder):
