@@ -38,7 +38,7 @@ RUNS = {
     "audit": ["audit", "many.rules"],
     "session": ["session", "long.script"],
 }
-# The walk by lanes takes about five thirds of what the other takes, and the tables of the run the same.
+# A packet by lanes takes about four thirds of what it takes by the other, and the tables of the run the same.
 LANES_TO_SCALAR = 1.1
 
 
