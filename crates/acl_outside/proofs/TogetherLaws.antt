@@ -222,14 +222,14 @@ after_fault-bytes OutOfMemory file = refl
 -- a desk that holds together does so after a file was read up to a cap
 pub readings : ReadingsHoldTogether
 readings cap old new (Ok bytes) together read = elim read.heard [
-  | inl (ended, below) ↦ HoldsTogether-reads_on (with_ending Ended) bytes.items old new together (λ file. refl) (λ file. refl)
-      read.reading read.writing ended
+  | inl (ended, below) ↦ HoldsTogether-reads_on (with_ending Ended) bytes.items old new together
+      (λ file. refl) (λ file. refl) read.reading read.writing ended
   | inr (on, full) ↦ HoldsTogether-reads_on and_goes_on bytes.items old new together (λ file. refl) (λ file. refl)
       read.reading read.writing on
 ]
 readings cap old new (Err fault) together read =
-    HoldsTogether-reads_on (after_fault fault) read.lost.0 old new together (after_fault-name fault) (after_fault-bytes fault)
-    read.reading read.writing read.lost.1
+    HoldsTogether-reads_on (after_fault fault) read.lost.0 old new together
+    (after_fault-name fault) (after_fault-bytes fault) read.reading read.writing read.lost.1
 
 -- where a file is told to be opened, the newest that was heard of is that file, and is whole
 pub whole_where_opened : (desk : DeskView) (content : Content) (name : List ℕ) → HoldsTogether desk →

@@ -1,5 +1,5 @@
--- Desks that tell their files: what was heard of the opened file, and what is left to read of it, are
--- together the file.
+-- Desks that tell their files: what was heard of the opened file, and what is left to read of it,
+-- are together the file.
 use Rattle.std.specs.Prelude.{◌≡◌, List, [], ◌∷◌, ◌++◌, false, Some, None, IsTrue}
 use Rattle.acl_outside.specs.Desk.{Content, DeskView, bytes_of}
 use Rattle.acl_outside.specs.Heard.{Heard, heard}

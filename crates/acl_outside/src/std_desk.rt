@@ -193,8 +193,8 @@ impl<'a, R: Files> Desk for StdDesk<'a, R> {
         }
     }
 
-    /// What is held of the opened file, once a read of it gave fewer bytes than were asked for: it is
-    /// a pipe, a terminal or such, or was read to its end.
+    /// What is held of the opened file, once a read of it gave fewer bytes than were asked for: it
+    /// is a pipe, a terminal or such, or was read to its end.
     #[inline]
     fn at_hand(&self) -> Option<&[u8]>
         // They are the next bytes that are given.

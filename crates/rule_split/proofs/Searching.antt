@@ -170,8 +170,8 @@ module _ (set : RuleSetView) (budget : ℕ) where
       All-weaker (IsPassed set budget) (IsCounted set budget) (λ group is. is.0) groups passed
 
 -- a group that was counted beside the others, and isn't passed, is split
-pub over_place : (set : RuleSetView) (budget : ℕ) (groups : List Counted) (place : ℕ) (group counted : Counted) (cap : ℕ) →
-    place < length groups → group ≡ get_or groups place group → group_in counted ≡ group_in group →
+pub over_place : (set : RuleSetView) (budget : ℕ) (groups : List Counted) (place : ℕ) (group counted : Counted)
+    (cap : ℕ) → place < length groups → group ≡ get_or groups place group → group_in counted ≡ group_in group →
     All (IsRight set budget) groups → All (IsPassed set budget) (take place groups) →
     IsCountedTo set budget cap counted → cap ≡ cap_beside budget (can_split (group_in group)) (remove groups place) →
     is_over counted ≡ true →

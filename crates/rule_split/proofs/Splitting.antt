@@ -110,7 +110,8 @@ back_first P xs place x within all here =
     let long : length (before ++ x ∷ []) ≡ place + 1 =
     omega (arith, length-append before (x ∷ []), length-take place xs) in
     All-same P (take (place + 1) (before ++ x ∷ after)) (before ++ x ∷ [])
-    (ap (take (place + 1)) (sym (append_assoc before (x ∷ []) after)) ∙ take_at (before ++ x ∷ []) after (place + 1) long)
+    (ap (take (place + 1)) (sym (append_assoc before (x ∷ []) after))
+    ∙ take_at (before ++ x ∷ []) after (place + 1) long)
     (All-push P before x all here)
 
 -- the groups where one was put back with other words

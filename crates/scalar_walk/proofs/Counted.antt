@@ -38,7 +38,8 @@ pub counted_none : (taken : List ℕ) (own : ℕ) → ((i : ℕ) → i < 4 → s
 unfolding counted
 counted_none taken own none =
     let f = λ (i : ℕ). if nat_lt i own then slice_index taken i else 0 in
-    sum_agree f (λ i. 0) 4 (λ i h. no_more i own (slice_index taken i) (none i h)) ∙ sum_zero (λ (i : ℕ). 0) 4 (λ i. refl)
+    sum_agree f (λ i. 0) 4 (λ i h. no_more i own (slice_index taken i) (none i h))
+    ∙ sum_zero (λ (i : ℕ). 0) 4 (λ i. refl)
   where
     no_more : (lane own count : ℕ) → count ≡ 0 → (if nat_lt lane own then count else 0) ≡ 0
     no_more lane own count is = grind (arith, nat_tests, is)

@@ -24,10 +24,6 @@ own_none count first past = grind (arith, nat_tests, past)
 pub own_below : (count first i : ℕ) → i < own_lanes count first → first + i < count
 own_below count first i own = grind (arith, nat_tests, own)
 
--- a key of a lane is that of one of its four's own lanes
-pub below_own : (count first i : ℕ) → i < 4 → first + i < count → i < own_lanes count first
-below_own count first i few within = grind (arith, nat_tests, few, within)
-
 -- those of four lanes and of the later ones are all
 own_rest : (count first : ℕ) → own_lanes count first + (count - (first + 4)) ≡ count - first
 own_rest count first = grind (arith, nat_tests)

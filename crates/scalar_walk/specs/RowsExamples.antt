@@ -44,7 +44,8 @@ unfolding winners_of
 won_by_some_rule = refl
 
 -- in the first of them, key by key
-won_by_keys : (key_winners apart_table 2 from_10 ∷ first_winners apart_table 3 (from_10 ++ from_11) 1
+won_by_keys : (key_winners apart_table 2 from_10
+    ∷ first_winners apart_table 3 (from_10 ++ from_11) 1
     ∷ batch_winners apart_table 2 (from_11 ++ from_10) ∷ [])
     ≡ (true ∷ false ∷ []) ∷ (true ∷ false ∷ true ∷ []) ∷ (false ∷ false ∷ true ∷ false ∷ []) ∷ []
 won_by_keys = refl

@@ -92,7 +92,8 @@ fn read_in<const FOURS: usize>(
     requires keys { four < FOURS → (i : ℕ) → i < 4 →
         slice_index begins.now i + from + count ≤ length keys.now }
     ensures { four < FOURS → (i k : ℕ) → i < 4 → k < count →
-        slice_index result (4 * i + k) ≡ slice_index keys.now (slice_index begins.now i + from + k) }
+        slice_index result (4 * i + k)
+        ≡ slice_index keys.now (slice_index begins.now i + from + k) }
 {
     if four < FOURS {
         groups_at(keys, begins, from, count)
@@ -154,7 +155,8 @@ fn end_in<const FOURS: usize>(
     ensures rows { four < FOURS → (i : ℕ) → i < 4 →
         slice_index rows.new (4 * four + i) ≡ slice_index walks.lows i % indexes }
     ensures others { (k : ℕ) → k < 4 * four → slice_index rows.new k ≡ slice_index rows.old k }
-    ensures taken { result ≡ sum_below (λ i. slice_index walks.taken i) (own_lanes count (4 * four)) }
+    ensures taken { result
+        ≡ sum_below (λ i. slice_index walks.taken i) (own_lanes count (4 * four)) }
     ensures limit { result ≤ own_lanes count (4 * four) * max_key_len }
     ensures bound { result ≤ 4 * max_key_len }
 {
@@ -249,8 +251,8 @@ fn walk_alone<L: Ledger>(
 }
 
 /// The walks of so many keys, 1 to 16, which stand one after the other, through the trie, from four
-/// keys on by as many fours of lanes as they need: writes the rows at which they ended, and says how many
-/// transitions they took together.
+/// keys on by as many fours of lanes as they need: writes the rows at which they ended, and says how
+/// many transitions they took together.
 pub(crate) fn walk_some<L: Ledger>(
     table: &Table,
     trie: usize,

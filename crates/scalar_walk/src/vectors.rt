@@ -246,7 +246,8 @@ fn four_bytes(keys: &[u8], at: usize) -> u32
 fn whole_groups(keys: &[u8], begins: &[usize; 4], from: usize) -> u8x16
     requires { (i : ℕ) → i < 4 → slice_index begins.now i + from + 4 ≤ length keys.now }
     ensures { (i k : ℕ) → i < 4 → k < 4 →
-        slice_index result (4 * i + k) ≡ slice_index keys.now (slice_index begins.now i + from + k) }
+        slice_index result (4 * i + k)
+        ≡ slice_index keys.now (slice_index begins.now i + from + k) }
 {
     bytes_of(u32x4::from_array([
         four_bytes(keys, begins[0] + from),
@@ -262,7 +263,8 @@ fn whole_groups(keys: &[u8], begins: &[usize; 4], from: usize) -> u8x16
 fn single_bytes(keys: &[u8], begins: &[usize; 4], from: usize) -> u8x16
     requires { (i : ℕ) → i < 4 → slice_index begins.now i + from < length keys.now }
     ensures { (i k : ℕ) → i < 4 → k < 1 →
-        slice_index result (4 * i + k) ≡ slice_index keys.now (slice_index begins.now i + from + k) }
+        slice_index result (4 * i + k)
+        ≡ slice_index keys.now (slice_index begins.now i + from + k) }
 {
     bytes_of(u32x4::from_array([
         u32::from(keys[begins[0] + from]),
@@ -279,7 +281,8 @@ pub(crate) fn groups_at(keys: &[u8], begins: &[usize; 4], from: usize, count: us
     requires count { IsGroupLen count }
     requires keys { (i : ℕ) → i < 4 → slice_index begins.now i + from + count ≤ length keys.now }
     ensures { (i k : ℕ) → i < 4 → k < count →
-        slice_index result (4 * i + k) ≡ slice_index keys.now (slice_index begins.now i + from + k) }
+        slice_index result (4 * i + k)
+        ≡ slice_index keys.now (slice_index begins.now i + from + k) }
 {
     if count == 4 {
         whole_groups(keys, begins, from)

@@ -46,4 +46,5 @@ pub returns-clause-verdicts : goal.returns-clause-verdicts
 returns-clause-verdicts g c = all_pieces c.loop-lane.invariant.0 (omega (arith, c.loop-lane-test.false)) c.requires.room
 
 pub returns-clause-won : goal.returns-clause-won
-returns-clause-won g c = all_pieces c.loop-lane.invariant.1 (omega (arith, c.loop-lane-test.false)) c.requires.marks_room
+returns-clause-won g c =
+    all_pieces c.loop-lane.invariant.1 (omega (arith, c.loop-lane-test.false)) c.requires.marks_room

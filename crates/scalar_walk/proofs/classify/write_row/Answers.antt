@@ -24,5 +24,5 @@ returns-after-loop-category-clause-won c =
 pub returns-then-count-eq1-clause-won : goal.returns-then-count-eq1-clause-won
 returns-then-count-eq1-clause-won c =
     all_marked (length c.args.won.now)
-    (marked_more (marked_none (λ (k : ℕ). slice_index c.args.row.now k) c.args.won.now) (slice_index c.args.row.now 0) refl
-    c.put_mark.ensures) (omega arith) (omega (arith, c.requires.marks))
+    (marked_more (marked_none (λ (k : ℕ). slice_index c.args.row.now k) c.args.won.now)
+    (slice_index c.args.row.now 0) refl c.put_mark.ensures) (omega arith) (omega (arith, c.requires.marks))

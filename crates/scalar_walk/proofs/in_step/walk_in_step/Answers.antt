@@ -112,13 +112,17 @@ loop-place-init g c =
     let len = c.key_len-len.ensures.value in
     let is = c.from-from.ensures in (
       λ h. group_begins (w.0 h) next.within next.follow is
-          (begins_are way c.args.count 0 c.begins-at_first.result len c.begins-at_first.ensures) (c.read_in-of_first.ensures h),
+          (begins_are way c.args.count 0 c.begins-at_first.result len c.begins-at_first.ensures)
+          (c.read_in-of_first.ensures h),
       λ h. group_begins (w.1 h) next.within next.follow is
-          (begins_are way c.args.count 4 c.begins-at_second.result len c.begins-at_second.ensures) (c.read_in-of_second.ensures h),
+          (begins_are way c.args.count 4 c.begins-at_second.result len c.begins-at_second.ensures)
+          (c.read_in-of_second.ensures h),
       λ h. group_begins (w.2 h) next.within next.follow is
-          (begins_are way c.args.count 8 c.begins-at_third.result len c.begins-at_third.ensures) (c.read_in-of_third.ensures h),
+          (begins_are way c.args.count 8 c.begins-at_third.result len c.begins-at_third.ensures)
+          (c.read_in-of_third.ensures h),
       λ h. group_begins (w.3 h) next.within next.follow is
-          (begins_are way c.args.count 12 c.begins-at_fourth.result len c.begins-at_fourth.ensures) (c.read_in-of_fourth.ensures h),
+          (begins_are way c.args.count 12 c.begins-at_fourth.result len c.begins-at_fourth.ensures)
+          (c.read_in-of_fourth.ensures h),
       w.5,
     )
 
@@ -293,15 +297,19 @@ returns-clause-steps g c =
       arith,
       c.loop-n.invariant.5,
       counted_is c.loop-n.first.taken c.lanes_of-own_first.result c.lanes_of-own_first.ensures.within,
-      ap (λ (own : ℕ). sum_below (λ (i : ℕ). slice_index c.loop-n.first.taken i) own) c.lanes_of-own_first.ensures.value,
+      ap (λ (own : ℕ). sum_below (λ (i : ℕ). slice_index c.loop-n.first.taken i) own)
+          c.lanes_of-own_first.ensures.value,
       c.end_in-taken.ensures.taken,
       counted_is c.loop-n.second.taken c.lanes_of-own_second.result c.lanes_of-own_second.ensures.within,
-      ap (λ (own : ℕ). sum_below (λ (i : ℕ). slice_index c.loop-n.second.taken i) own) c.lanes_of-own_second.ensures.value,
+      ap (λ (own : ℕ). sum_below (λ (i : ℕ). slice_index c.loop-n.second.taken i) own)
+          c.lanes_of-own_second.ensures.value,
       c.end_in-taken-2.ensures.taken,
       counted_is c.loop-n.third.taken c.lanes_of-own_third.result c.lanes_of-own_third.ensures.within,
-      ap (λ (own : ℕ). sum_below (λ (i : ℕ). slice_index c.loop-n.third.taken i) own) c.lanes_of-own_third.ensures.value,
+      ap (λ (own : ℕ). sum_below (λ (i : ℕ). slice_index c.loop-n.third.taken i) own)
+          c.lanes_of-own_third.ensures.value,
       c.end_in-taken-3.ensures.taken,
       counted_is c.loop-n.fourth.taken c.lanes_of-own_fourth.result c.lanes_of-own_fourth.ensures.within,
-      ap (λ (own : ℕ). sum_below (λ (i : ℕ). slice_index c.loop-n.fourth.taken i) own) c.lanes_of-own_fourth.ensures.value,
+      ap (λ (own : ℕ). sum_below (λ (i : ℕ). slice_index c.loop-n.fourth.taken i) own)
+          c.lanes_of-own_fourth.ensures.value,
       c.end_in-taken-4.ensures.taken,
     )
