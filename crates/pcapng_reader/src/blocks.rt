@@ -41,11 +41,11 @@ pub const SECTION_BYTES: [u8; 4] = [0x0A, 0x0D, 0x0D, 0x0A];
 /// Where the captured bytes of an enhanced packet begin.
 pub const CAPTURED_AT: usize = 28;
 
-/// Where the captured bytes of a packet stand in the buffer, and its link type.
+/// Where the captured bytes of a packet stand in the buffer, its link type, and how many they are.
 #[derive(Clone, Copy)]
 pub struct PacketPlace {
-    pub link: Link,
     pub at: usize,
+    pub link: Link,
     pub len: usize,
 }
 
@@ -74,7 +74,7 @@ pub fn read_block<D: Desk>(
         (D.view desk.new) result }
 {
     if reader.takes_slow_way() {
-        return in_parts(read_slow(desk, reader, buffer));
+        return read_slow_in_parts(desk, reader, buffer);
     }
     match read_new_front(desk, reader, &mut buffer[..FRONT_LEN]) {
         Ok(FRONT_LEN) => {}
@@ -87,6 +87,21 @@ pub fn read_block<D: Desk>(
         Order::Big => read_rest(desk, reader, Order::Big, buffer),
         Order::Little => read_rest(desk, reader, Order::Little, buffer),
     }
+}
+
+/// The answer of [`read_slow`], made of its parts anew.
+#[inline(always)]
+fn read_slow_in_parts<D: Desk>(
+    desk: &mut D,
+    reader: &mut Reader,
+    buffer: &mut [u8],
+) -> Result<BlockRead, CaptureFault>
+    requires reading { IsTrue (D.view desk.old).reading }
+    requires room { length buffer.old ≡ max_captured }
+    ensures { AnswersBlock reader.old reader.new buffer.new (D.view desk.old)
+        (D.view desk.new) result }
+{
+    in_parts(read_slow(desk, reader, buffer))
 }
 
 /// Reads the next block, whatever was read before it.
@@ -133,8 +148,24 @@ fn read_rest<D: Desk>(
     // Most blocks are packets, whose kind is settled where they are read.
     match reader.packet_front(order, &buffer[..FRONT_LEN]) {
         Some(front) => read_within(desk, reader, &front, buffer),
-        None => in_parts(read_any(desk, reader, buffer)),
+        None => read_any_in_parts(desk, reader, buffer),
     }
+}
+
+/// The answer of [`read_any`], made of its parts anew.
+#[inline(always)]
+fn read_any_in_parts<D: Desk>(
+    desk: &mut D,
+    reader: &mut Reader,
+    buffer: &mut [u8],
+) -> Result<BlockRead, CaptureFault>
+    requires reading { IsTrue (D.view desk.old).reading }
+    requires few { is_last reader.old ≡ false }
+    requires room { length buffer.old ≡ max_captured }
+    ensures { AnswersRest reader.old reader.new buffer.old buffer.new (D.view desk.old)
+        (D.view desk.new) result }
+{
+    in_parts(read_any(desk, reader, buffer))
 }
 
 /// Reads the rest of a block of any kind, of which `buffer` has the first twelve bytes.
@@ -244,17 +275,36 @@ fn read_short<D: Desk>(
         Err(Failed) => return Err(CaptureFault::ReadFault),
     };
     // Most blocks are whole packets, of which nothing is refused.
-    match reader.packet_at(front, block, FRONT_LEN + count) {
+    match reader.packet_at(front, block, count) {
         Some(place) => {
             reader.count_packet();
             Ok(BlockRead::Given(place))
         }
-        None => in_parts(settle(reader, *front, block, count)),
+        None => settle_in_parts(reader, *front, block, count),
     }
 }
 
+/// The answer of [`settle`], made of its parts anew.
+#[inline(always)]
+fn settle_in_parts(
+    reader: &mut Reader,
+    front: Front,
+    block: &[u8],
+    count: usize,
+) -> Result<BlockRead, CaptureFault>
+    requires few { is_last reader.old ≡ false }
+    requires front { front_of reader.old (take front_len block.now) ≡ Ok front }
+    requires total { length block.now ≡ front.total }
+    requires within { front_len + count ≤ length block.now }
+    ensures { (before after : DeskView) → HasRest reader.old block.now count before after
+        → AnswersBlock reader.old reader.new block.now before after result }
+{
+    in_parts(settle(reader, front, block, count))
+}
+
 /// The same answer, made of its parts anew. A packet that is read at once then meets none in
-/// memory.
+/// memory. Its argument is asked for beside it in a function of its own, so that the room for it is
+/// zeroed where it is asked for, and not at each packet.
 #[inline(always)]
 fn in_parts(answer: Result<BlockRead, CaptureFault>) -> Result<BlockRead, CaptureFault>
     ensures { result ≡ answer }

@@ -230,34 +230,34 @@ impl Reader {
     }
 
     /// Where a packet stands whose block was read in full and isn't refused. `None`: that isn't so,
-    /// or only looks so. Of the block so many bytes were read.
+    /// or only looks so. Of the block so many bytes were read after its front.
     #[inline(always)]
-    pub fn packet_at(&self, front: &Front, block: &[u8], len: usize) -> Option<PacketPlace>
+    pub fn packet_at(&self, front: &Front, block: &[u8], count: usize) -> Option<PacketPlace>
         requires there { least_len front.now.kind ≤ length block.now }
         requires multiple { front.now.total % 4 ≡ 0 }
         requires total { length block.now ≡ front.now.total }
         requires fits { front.now.total ≤ max_captured }
-        requires within { len ≤ length block.now }
+        requires within { front_len + count ≤ length block.now }
         ensures { IfSome result (λ place. (front.now.kind ≡ Kind.Packet)
-            × IsPacketAt self.now front.now block.now len place) }
+            × IsPacketAt self.now front.now block.now (front_len + count) place) }
     {
         match front.kind {
-            Kind::Packet => self.whole_packet(front, block, len),
+            Kind::Packet => self.whole_packet(front, block, count),
             Kind::Section | Kind::Interface | Kind::Other => None,
         }
     }
 
     /// The same, where the block is that of a packet.
     #[inline(always)]
-    fn whole_packet(&self, front: &Front, block: &[u8], len: usize) -> Option<PacketPlace>
+    fn whole_packet(&self, front: &Front, block: &[u8], count: usize) -> Option<PacketPlace>
         requires there { least_len Kind.Packet ≤ length block.now }
         requires multiple { front.now.total % 4 ≡ 0 }
         requires total { length block.now ≡ front.now.total }
         requires fits { front.now.total ≤ max_captured }
-        requires within { len ≤ length block.now }
-        ensures { IfSome result (IsPacketAt self.now front.now block.now len) }
+        requires within { front_len + count ≤ length block.now }
+        ensures { IfSome result (IsPacketAt self.now front.now block.now (front_len + count)) }
     {
-        if len < block.len() {
+        if count != block.len() - FRONT_LEN {
             return None;
         }
         let link = match self.interfaces.get(u32_in(front.order, block, 8)) {

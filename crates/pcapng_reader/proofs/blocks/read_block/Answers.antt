@@ -50,4 +50,4 @@ returns-in-Little g c =
     c.in-Ok-eq12.field-0 c.in-Ok-eq12.field-0-test c.in-Ok-eq12.ensures.1)
 
 pub returns-then-takes_slow_way : goal.returns-then-takes_slow_way
-returns-then-takes_slow_way g c = rw c.in_parts.ensures c.read_slow.ensures
+returns-then-takes_slow_way g c = c.read_slow_in_parts.ensures

@@ -5,4 +5,4 @@ pub returns-in-Some : goal.returns-in-Some
 returns-in-Some g c = c.read_within.ensures
 
 pub returns-in-None : goal.returns-in-None
-returns-in-None g c before h = rw c.in_parts.ensures (c.read_any.ensures before h)
+returns-in-None g c = c.read_any_in_parts.ensures

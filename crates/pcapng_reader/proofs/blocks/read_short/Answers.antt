@@ -93,20 +93,20 @@ packet_at-requires-clause-within g c =
     let now = is_filled c.args.block.now c.fill.new.into is.there (c.fill.auto.into ∙ is.rest) in
     omega (arith, c.in-Ok.ensures.within, is.rest, now.len, is.there)
 
-pub settle-requires-clause-front : goal.settle-requires-clause-front
-settle-requires-clause-front g c =
+pub settle_in_parts-requires-clause-front : goal.settle_in_parts-requires-clause-front
+settle_in_parts-requires-clause-front g c =
     let is = cut c.args.reader.now c.args.front.now c.args.block.now c.requires.front c.requires.total in
     let now = is_filled c.args.block.now c.fill.new.into is.there (c.fill.auto.into ∙ is.rest) in
     ap (front_of c.args.reader.now) now.first ∙ c.requires.front
 
-pub settle-requires-clause-total : goal.settle-requires-clause-total
-settle-requires-clause-total g c =
+pub settle_in_parts-requires-clause-total : goal.settle_in_parts-requires-clause-total
+settle_in_parts-requires-clause-total g c =
     let is = cut c.args.reader.now c.args.front.now c.args.block.now c.requires.front c.requires.total in
     let now = is_filled c.args.block.now c.fill.new.into is.there (c.fill.auto.into ∙ is.rest) in
     now.len ∙ c.requires.total
 
-pub settle-requires-clause-within : goal.settle-requires-clause-within
-settle-requires-clause-within g c =
+pub settle_in_parts-requires-clause-within : goal.settle_in_parts-requires-clause-within
+settle_in_parts-requires-clause-within g c =
     let is = cut c.args.reader.now c.args.front.now c.args.block.now c.requires.front c.requires.total in
     let now = is_filled c.args.block.now c.fill.new.into is.there (c.fill.auto.into ∙ is.rest) in
     omega (arith, c.in-Ok.ensures.within, is.rest, now.len, is.there)
@@ -152,8 +152,7 @@ returns-in-None g c since h =
     let new = g.D.Desk.view c.fill.new.desk in
     let is = cut state c.args.front.now block c.requires.front c.requires.total in
     let now = is_filled block c.fill.new.into is.there (c.fill.auto.into ∙ is.rest) in
-    rw c.in_parts.ensures
-    (c.settle.ensures since new
+    c.settle_in_parts.ensures since new
     (record {
       mid = old;
       before = take (length block - 12) (drop 12 block);
@@ -161,4 +160,4 @@ returns-in-None g c since h =
       front = subst (λ l. HasRead state l GoesOn since old) (sym now.first) h;
       rest = subst (λ l. Fills {E = Failed} (take (length block - 12) (drop 12 block)) l old new (Ok c.in-Ok.count))
           (sym now.rest_is) c.in-Ok.ensures;
-    }))
+    })

@@ -16,7 +16,7 @@ returns c =
     let fits : captured_in front block + 32 ≤ front.total =
     omega (arith, captured, c.if-captured-block.false, c.requires.there, c.requires.total) in
     record {
-      whole = omega (arith, c.requires.within, c.if-len-block.false);
+      whole = omega (arith, c.requires.there, c.if-count-block.false);
       says = subst (λ n. packet_said state front block ≡ Ok (said.Packet c.in-Some-Some.link n)) (sym captured)
           (packet-says state front block c.in-Some-Some.link
           (ap (λ n. slice_get state.interfaces n) (sym c.u32_in.ensures)
