@@ -1,12 +1,12 @@
 //! The packet of a record.
 
-ghost use Rattle.std.specs.Prelude.{◌≡◌, ◌<◌, ◌≤◌, All, length};
+ghost use Rattle.std.specs.Prelude.{◌≡◌, ◌+◌, ◌<◌, ◌≤◌, ◌++◌, All, length, take};
 ghost use Rattle.table_sizes.specs.Groups.{ip6_key_len};
 ghost use Rattle.header_extract.specs.Class.{settled};
-ghost use Rattle.header_extract.specs.Extracted.{key_len};
 ghost use Rattle.header_extract.specs.Link.{frame_class};
 ghost use Rattle.capture_report.specs.Packet.{IsPacket};
 
+use crate::lines::put_at;
 use header_extract::{Class, KeyBuf, extract};
 use pcap_reader::Link;
 use std::marker::Model;
@@ -62,16 +62,22 @@ impl Packet {
         self.class
     }
 
-    /// The key of the packet, of 13 bytes for IPv4 and 37 for IPv6.
-    pub fn key(&self) -> &[u8]
-        ensures key { result.now ≡ self.now.key }
-        ensures len { length result.now ≡ key_len self.now.class }
-        ensures bound { length result.now ≤ ip6_key_len }
+    /// Writes the key of the packet, of 13 bytes for IPv4 and 37 for IPv6, at the place `at`, and
+    /// gives the place after it.
+    #[inline(always)]
+    pub fn put_key(&self, into: &mut [u8], at: usize) -> usize
+        requires room { at + ip6_key_len ≤ length into.old }
+        ensures end { result ≤ at + ip6_key_len }
+        ensures key { take result into.new ≡ take at into.old ++ self.now.key }
+        ensures len { length into.new ≡ length into.old }
     {
+        // Bytes of its own can't be those of the other keys, so that no test asks whether they are.
+        let mut bytes = [0; IP6_KEY_LEN];
+        bytes.copy_from_slice(&self.room.bytes);
         match self.class {
-            Class::Ip4 => &self.room.bytes[..IP4_KEY_LEN],
-            Class::Ip6 => &self.room.bytes,
-            Class::Other | Class::Short => &[],
+            Class::Ip4 => put_at(into, at, &bytes[..IP4_KEY_LEN]),
+            Class::Ip6 => put_at(into, at, &bytes),
+            Class::Other | Class::Short => at,
         }
     }
 }

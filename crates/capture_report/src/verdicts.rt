@@ -13,7 +13,6 @@ ghost use Rattle.capture_report.specs.declared.verdicts.TheConstants.{BATCH_KEYS
 
 use crate::batch::MAX_BATCH;
 use crate::form::FormByTables;
-use crate::lines::put_at;
 use crate::packet::Packet;
 use acl_report::MAX_VERDICTS;
 use batch_walk::{classify_by, classify_marked};
@@ -168,7 +167,7 @@ fn gather_each(family: Family, packets: &[Packet], keys: &mut [u8]) -> Gathered
     let (mut count, mut end) = (0, 0);
     for packet in packets {
         if is_of(family, packet.class()) {
-            end = put_at(keys, end, packet.key());
+            end = packet.put_key(keys, end);
             count += 1;
         }
     }
