@@ -81,28 +81,10 @@ fn put_lines<O: Sink, L: Ledger>(
 {
     let packets = room.packets.as_slice();
     let (keys, rows) = (&mut room.keys, &mut room.scratch);
-    let (verdicts, dashes) = (&mut room.ip4.verdicts, &mut room.ip4.dashes);
-    let ip4 = walk_keys(
-        form,
-        Family::Ip4,
-        packets,
-        keys,
-        rows,
-        verdicts,
-        dashes,
-        steps,
-    );
-    let (verdicts, dashes) = (&mut room.ip6.verdicts, &mut room.ip6.dashes);
-    let ip6 = walk_keys(
-        form,
-        Family::Ip6,
-        packets,
-        keys,
-        rows,
-        verdicts,
-        dashes,
-        steps,
-    );
+    let (given, marks) = (&mut room.ip4.verdicts, &mut room.ip4.dashes);
+    let ip4 = walk_keys(form, Family::Ip4, packets, keys, rows, given, marks, steps);
+    let (given, marks) = (&mut room.ip6.verdicts, &mut room.ip6.dashes);
+    let ip6 = walk_keys(form, Family::Ip6, packets, keys, rows, given, marks, steps);
     *transitions += ip4.transitions + ip6.transitions;
     let len = write_lines(
         form,
