@@ -13,10 +13,15 @@ pub record PairSetView : Type 0 where
 abbrev pub pair_in : Linked → ℕ × ℕ
 pair_in linked = (linked.left, linked.right)
 
--- the bucket of a pair, where there are so many
+-- the tile of that place, of so many tiles
+unfoldable pub tile_of : ℕ × ℕ → ℕ → ℕ
+tile_of place tiles =
+    (place.0 * 4294967296 + place.1) * 11400714819323198485 % 2 ^ 64 * tiles / 2 ^ 64
+
+-- the bucket of a pair, where there are so many: one of the 64 of its tile
 unfoldable pub bucket_of : ℕ × ℕ → ℕ → ℕ
 bucket_of pair buckets =
-    (pair.0 * 4294967296 + pair.1) * 11400714819323198485 % 2 ^ 64 * buckets / 2 ^ 64
+    tile_of (pair.0 / 64, pair.1 / 64) (buckets / 64) * 64 + (pair.0 * 11 + pair.1) % 64
 
 -- what stands past the last pair
 abbrev pub no_pair : Linked
@@ -34,7 +39,7 @@ pub record IsLast (all : List Linked) (buckets bucket end number : ℕ) : Type 0
 
 -- Each bucket names its last pair, and each pair the one before it in its bucket.
 pub record AreLinked (all : List Linked) (heads : List ℕ) : Type 0 where
-  pub some : 0 < length heads
+  pub some : 64 ≤ length heads
   pub last : (bucket : ℕ) → bucket < length heads →
       IsLast all (length heads) bucket (length all) (slice_index_or heads bucket 0)
   pub before : (k : ℕ) → k < length all →

@@ -3,17 +3,22 @@
 //! Pairs are found by buckets. A bucket names its last pair, and each pair the one before it in its
 //! bucket, so a search goes from the last pair to the first.
 
-ghost use Rattle.std.specs.Prelude.{◌≡◌, ◌<◌, ◌≤◌, ◌+◌, ◌-◌, ◌^◌, [], map, length, take};
+ghost use Rattle.std.specs.Prelude.{◌≡◌, ◌<◌, ◌≤◌, ◌+◌, ◌-◌, ◌*◌, ◌%◌, ◌^◌, [], map};
+ghost use Rattle.std.specs.Prelude.{length, take};
 ghost use Rattle.std.specs.Prelude.{slice_index_or, IfOk, OnErr};
-ghost use Rattle.state_parts.specs.Buckets.{bucket_of, pair_in, no_pair, AreLinked, NoneFrom};
+ghost use Rattle.state_parts.specs.Buckets.{bucket_of, tile_of, pair_in, no_pair, AreLinked};
+ghost use Rattle.state_parts.specs.Buckets.{NoneFrom};
 ghost use Rattle.state_parts.specs.Keys.{same_pair};
 
 use crate::room::check_room;
 use std::alloc::{AllocError, Global};
 use std::marker::Model;
 
-/// The fewest buckets of a table of some pairs.
+/// The fewest buckets of a table of some pairs, which is one tile.
 const FEWEST: usize = 64;
+
+/// How many buckets a tile has, and how many neighbouring numbers of each side its pairs have.
+const TILE: u32 = 64;
 
 /// An odd number of 64 bits whose products spread numbers that are near one another: 2^64 over the
 /// golden ratio.
@@ -27,17 +32,39 @@ pub(crate) struct Linked {
     before: u32,
 }
 
-/// The bucket of a pair.
+/// The tile of that place, of so many tiles.
+#[inline]
+#[tactic(auto, unfolding(crate::specs::Buckets::tile_of))]
+fn tile_of(place: (u32, u32), tiles: usize) -> usize
+    requires { 0 < tiles }
+    ensures tile { result ≡ tile_of place tiles }
+    ensures within { result < tiles }
+{
+    let key = u64::from(place.0) * 0x1_0000_0000 + u64::from(place.1);
+    let spread = key.wrapping_mul(SPREAD);
+    (u128::from(spread) * tiles as u128 >> 64) as usize
+}
+
+/// Which of the buckets of its tile a pair has.
+#[inline]
+fn place_in_tile(pair: (u32, u32)) -> usize
+    ensures place { result ≡ (pair.0 * 11 + pair.1) % 64 }
+    ensures within { result < 64 }
+{
+    ((u64::from(pair.0) * 11 + u64::from(pair.1)) % u64::from(TILE)) as usize
+}
+
+/// The bucket of a pair. Pairs of near numbers have one tile, whose buckets lie side by side: they
+/// are mostly sought one after the other, and are then in the cache.
 #[inline]
 #[tactic(auto, unfolding(crate::specs::Buckets::bucket_of))]
 fn bucket_of(pair: (u32, u32), buckets: usize) -> usize
-    requires { 0 < buckets }
+    requires { 64 ≤ buckets }
     ensures bucket { result ≡ bucket_of pair buckets }
     ensures within { result < buckets }
 {
-    let key = u64::from(pair.0) * 0x1_0000_0000 + u64::from(pair.1);
-    let spread = key.wrapping_mul(SPREAD);
-    (u128::from(spread) * buckets as u128 >> 64) as usize
+    let tile = tile_of((pair.0 / TILE, pair.1 / TILE), buckets / TILE as usize);
+    tile * TILE as usize + place_in_tile(pair)
 }
 
 /// Whether it is that pair.
@@ -71,7 +98,7 @@ fn find_in(all: &[Linked], heads: &[u32], pair: (u32, u32)) -> u32
 fn link(all: &mut [Linked], heads: &mut [u32], place: usize)
     requires place { place < length all.old }
     requires few { place + 1 < 2 ^ 32 }
-    requires some { 0 < length heads.old }
+    requires some { 64 ≤ length heads.old }
     requires before { AreLinked (take place all.old) heads.old }
     ensures linked { AreLinked (take (place + 1) all.new) heads.new }
     ensures same { map pair_in all.new ≡ map pair_in all.old }
@@ -107,7 +134,7 @@ fn relink(alloc: Global, all: &mut [Linked]) -> Result<Vec<u32>, AllocError>
     ensures same { map pair_in all.new ≡ map pair_in all.old }
     ensures err { OnErr result (all.new ≡ all.old) }
 {
-    let mut heads = Vec::from_elem(alloc, 0, (4 * all.len()).max(FEWEST))?;
+    let mut heads = Vec::from_elem(alloc, 0, (2 * all.len()).max(FEWEST))?;
     link_all(all, heads.as_mut_slice());
     Ok(heads)
 }
@@ -144,7 +171,7 @@ impl PairSet {
         ensures { IfOk result (λ pairs. pairs.keys ≡ []) }
     {
         let all = Vec::with_capacity(alloc, count)?;
-        let heads = Vec::from_elem(alloc, 0, count.saturating_mul(2).max(FEWEST))?;
+        let heads = Vec::from_elem(alloc, 0, count.max(FEWEST))?;
         Ok(PairSet { alloc, all, heads })
     }
 
@@ -185,7 +212,7 @@ impl PairSet {
         ensures err { OnErr result (self.new.keys ≡ self.old.keys) }
     {
         check_room(self.alloc, self.all.len())?;
-        if self.heads.len() / 2 <= self.all.len() {
+        if self.heads.len() <= self.all.len() {
             self.heads = relink(self.alloc, self.all.as_mut_slice())?;
         }
         let bucket = bucket_of(pair, self.heads.len());
