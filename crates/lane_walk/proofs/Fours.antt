@@ -1,6 +1,6 @@
 -- Four busy lanes that go on at once.
 use Rattle.std.proofs.Common.{◌≡◌, ℕ, ◌+◌, ◌<◌, ◌≤◌, List, sym, ap, ◌∙◌, refl, arith, lit<, length, subst, true, false}
-use Rattle.std.proofs.Common.{get_or, set, map, length-set, get_or-set_other, get_or-set_same}
+use Rattle.std.proofs.Common.{Bool, get_or, set, map, length-set, get_or-set_other, get_or-set_same}
 use Rattle.std.proofs.lemmas.List.Elements.{All-set, All-from_get_or}
 use Rattle.std.specs.Prelude.{All, slice_index, slice_index_or, None, Some}
 use Rattle.std.proofs.lemmas.List.{get_or-map}
@@ -9,9 +9,10 @@ use Rattle.table_sizes.specs.Groups.{max_key_len}
 use Rattle.flat_table.specs.Laws.{WalksStay}
 use Rattle.flat_table.specs.Sound.{sound_fault}
 use Rattle.flat_table.specs.Table.{TableView}
+use Rattle.flat_table.specs.Batch.{keys_in}
 use Rattle.flat_table.specs.Word.{is_match, is_node}
 use Rattle.flow_core.specs.declared.flight.Flight.{Flight}
-use Rattle.table_sizes.specs.Sizes.{max_tries, row_len}
+use Rattle.table_sizes.specs.Sizes.{max_tries}
 use Rattle.flow_core.specs.Machine.{Machine, moved_to, word_of}
 use Rattle.flow_core.specs.Standing.{LeadsOnward, StandsOver, IsOnWay, held_after}
 use Rattle.flow_core.specs.Laws.{AreBytes}
@@ -58,16 +59,27 @@ come {table = table} before {rows = rows} onward key is =
       key = key;
     }
 
--- there is a place for the note of a flight that has come to its next word
-pub room_for : {word : ℕ} (before : Flight) {next : Flight} {rows : ℕ} →
-    (is_match word ≡ false → is_node word ≡ true) → before.key < rows → before.trie < row_len →
-    next ≡ moved_to word before → HasRoom next rows
-room_for before {rows = rows} lawful key trie is =
-    subst (λ (flight : Flight). HasRoom flight rows) (sym is) record { lawful = lawful; key = key; trie = trie }
+-- there is a place for the note of a flight on its way
+pub room_of : {table : TableView} {keys : List ℕ} {given rows : ℕ} {flight : Flight} {one : Bool} →
+    IsOnWay table keys given flight → keys_in table keys ≤ rows → length table.roots ≤ max_tries →
+    (one ≡ true → length table.roots ≡ 1) → HasRoom one flight rows
+room_of on room few single = record {
+  key = omega (arith, key_of_flight on, room);
+  trie = omega (arith, trie_of_flight on, few);
+  at_first = λ is. omega (arith, trie_of_flight on, single is);
+}
+
+-- and after it has come to its next word
+pub room_for : {one : Bool} {word : ℕ} (before : Flight) {next : Flight} {rows : ℕ} → HasRoom one before rows →
+    next ≡ moved_to word before → HasRoom one next rows
+room_for {one = one} before {rows = rows} room is =
+    subst (λ (flight : Flight). HasRoom one flight rows) (sym is)
+    record { key = room.key; trie = room.trie; at_first = room.at_first }
 
 -- with as many rows there is still a place
-pub still : {flight : Flight} {rows new : ℕ} → HasRoom flight rows → new ≡ rows → HasRoom flight new
-still {flight = flight} has is = subst (λ (n : ℕ). HasRoom flight n) (sym is) has
+pub still : {one : Bool} {flight : Flight} {rows new : ℕ} → HasRoom one flight rows → new ≡ rows →
+    HasRoom one flight new
+still {one = one} {flight = flight} has is = subst (λ (n : ℕ). HasRoom one flight n) (sym is) has
 
 -- what is noted of a flight at its next word is what is noted of the flight and the word
 pub noted_as : {flight next : Flight} {word : ℕ} {old new : List (List ℕ)} → next ≡ moved_to word flight →
@@ -184,15 +196,6 @@ module _ {table : TableView} {keys : List ℕ} {jobs given : ℕ} (flights : Lis
         onward = subst (LeadsOnward table flight) (sym (read k h)) (word_leads l is);
       }
 
-  -- its key has a row
-  pub four_keys : (k : ℕ) → k < 4 → (get_or flights (first + k) no_one).key < length rows
-  four_keys k h = omega (arith, key_of_flight (lands_at k h).on_way, a.stands.fits.room)
-
-  -- and its trie a word in it
-  pub four_tries : length table.roots ≤ max_tries → (k : ℕ) → k < 4 →
-      (get_or flights (first + k) no_one).trie < row_len
-  four_tries few k h = omega (arith, trie_of_flight (lands_at k h).on_way, few)
-
   -- ---- when they have gone on
   module _ (words : List ℕ)
       (goes : (k : ℕ) → k < 4 → Goes table keys (get_or flights (first + k) no_one) (slice_index words k))
@@ -282,28 +285,10 @@ module _ {table : TableView} {keys : List ℕ} {jobs given : ℕ} (flights : Lis
         (lawful (get_or flights first no_one) (goes 0 (lit< tt)).onward is_one) all)))
 
     -- there is a place for the note of each of the four flights
-    pub four_room : length table.roots ≤ max_tries → (k : ℕ) → k < 4 →
-        HasRoom (get_or f4 (first + k) no_one) (length rows)
-    four_room few k h = room_for (get_or flights (first + k) no_one)
-        (λ on. leads (goes k h).onward on) (four_keys k h) (four_tries few k h) (four_at k h)
-
-    -- where none of them came to a match, the rows stay
-    pub none_end : ((k : ℕ) → k < 4 → is_match (slice_index words k) ≡ false) → NotesFour f4 first rows rows
-    none_end none = record {
-      one = rows;
-      two = rows;
-      three = rows;
-      first_is = nothing (get_or f4 first no_one) (ap (λ (w : Flight). is_match w.word) first_at ∙ none 0 (lit< tt));
-      second_is = nothing (get_or f4 (first + 1) no_one)
-          (ap (λ (w : Flight). is_match w.word) second_at ∙ none 1 (lit< tt));
-      third_is = nothing (get_or f4 (first + 2) no_one)
-          (ap (λ (w : Flight). is_match w.word) third_at ∙ none 2 (lit< tt));
-      fourth_is = nothing (get_or f4 (first + 3) no_one)
-          (ap (λ (w : Flight). is_match w.word) fourth_at ∙ none 3 (lit< tt));
-    }
-      where
-        nothing : (flight : Flight) → is_match flight.word ≡ false → Notes flight flight.word rows rows
-        nothing flight on = record { rows = rw on refl; number = λ match. absurd (cc (match, on)) }
+    pub four_room : {only : Bool} → (only ≡ true → length table.roots ≡ 1) → length table.roots ≤ max_tries →
+        (k : ℕ) → k < 4 → HasRoom only (get_or f4 (first + k) no_one) (length rows)
+    four_room single few k h = room_for (get_or flights (first + k) no_one)
+        (room_of (lands_at k h).on_way a.stands.fits.room few single) (four_at k h)
 
     -- and each was stepped
     pub four_go : {new : List (List ℕ)} → NotesFour f4 first rows new →

@@ -60,9 +60,9 @@ row_none table noted row is = record {
 
 -- the row of one trie more
 pub row_more : {table : TableView} {noted row other new : List ℕ} {n : ℕ} → IsRowOf table noted n row →
-    get_or table.rows (slice_index noted n) [] ≡ other → new ≡ joined_row row other → IsRowOf table noted (n + 1) new
+    get_or table.rows (index_of (slice_index noted n)) [] ≡ other → new ≡ joined_row row other → IsRowOf table noted (n + 1) new
 row_more {table = table} {noted = noted} {row = row} {other = other} {new = new} {n = n} r there is =
-    let f = λ (category trie : ℕ). slice_index (get_or table.rows (slice_index noted trie) []) category in
+    let f = λ (category trie : ℕ). slice_index (get_or table.rows (index_of (slice_index noted trie)) []) category in
     record {
       len = ap (λ (xs : List ℕ). length xs) is ∙ joined_len row other;
       words = λ category within.
@@ -73,7 +73,7 @@ row_more {table = table} {noted = noted} {row = row} {other = other} {new = new}
 
 -- with one trie it is that of the trie
 pub row_of_one : {table : TableView} {noted row : List ℕ} → length table.roots ≡ 1 → length row ≡ row_len →
-    get_or table.rows (slice_index noted 0) [] ≡ row → IsRowOf table noted (length table.roots) row
+    get_or table.rows (index_of (slice_index noted 0)) [] ≡ row → IsRowOf table noted (length table.roots) row
 row_of_one {table = table} {noted = noted} {row = row} one len is =
     subst (λ (n : ℕ). IsRowOf table noted n row) (sym one) record {
       len = len;
@@ -128,7 +128,8 @@ module _ {table : TableView} {keys : List ℕ} {noted : List (List ℕ)} (new : 
       slice_index (get_or (take (keys_in table keys) new) key []) category
       ≡ joined table (key_at table keys key) category
   word_joined key category below within =
-      let f = λ (trie : ℕ). slice_index (get_or table.rows (slice_index (get_or noted key []) trie) []) category in
+      let f = λ (trie : ℕ). slice_index
+      (get_or table.rows (index_of (slice_index (get_or noted key []) trie)) []) category in
       let row = λ (trie : ℕ). get_or table.rows (walk_row table trie (key_at table keys key)) [] in
       ap (λ (xs : List ℕ). slice_index xs category) (get_or-take (keys_in table keys) new key [] below)
       ∙ (r key below).words category within

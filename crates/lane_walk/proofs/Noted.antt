@@ -10,9 +10,8 @@ use Rattle.std.proofs.lemmas.List.Elements.{All-set, All-weaker, All-get_or, All
 use Rattle.flat_table.specs.Laws.{WalksStay}
 use Rattle.flat_table.specs.Sound.{sound_fault}
 use Rattle.flat_table.specs.Table.{TableView}
-use Rattle.flat_table.specs.Walk.{walk_row}
 use Rattle.flat_table.specs.Word.{index_of, is_match}
-use Rattle.flat_table.specs.Batch.{key_at, keys_in}
+use Rattle.flat_table.specs.Batch.{keys_in}
 use Rattle.flow_core.specs.declared.flight.Flight.{Flight}
 use Rattle.flow_core.specs.Jobs.{Job, job_at, job_count}
 use Rattle.flow_core.specs.Machine.{Machine, begun, first_machine, is_done, is_empty, moved_to, word_of}
@@ -22,49 +21,49 @@ use Rattle.flow_core.specs.Laws.{AreBytes}
 use Rattle.flow_core.proofs.Offered.{Takes, takes, flies, later, number_there}
 use Rattle.lane_walk.specs.Turn.{AreAllNoted, AreNoted, IsHeldIn, IsNotedAs, Notes}
 
--- there are as many rows after the notes
+-- there are as many rows after the note
 pub notes_len : {flight : Flight} {word : ℕ} {old new : List (List ℕ)} → Notes flight word old new →
     length new ≡ length old
-notes_len {flight = flight} {word = word} {old = old} n = elim (cases_Bool (is_match word)) [
-  | inl match ↦ ap (λ (rows : List (List ℕ)). length rows) (rw match at n.rows) ∙ length-set old flight.key _
-  | inr on ↦ ap (λ (rows : List (List ℕ)). length rows) (rw on at n.rows)
-]
+notes_len {flight = flight} {old = old} n =
+    ap (λ (rows : List (List ℕ)). length rows) n.rows ∙ length-set old flight.key _
 
 -- and the rows after those of the keys stay
 pub notes_others : {flight : Flight} {word : ℕ} {old new : List (List ℕ)} (keys : ℕ) → Notes flight word old new →
     flight.key < keys → drop keys new ≡ drop keys old
-notes_others {flight = flight} {word = word} {old = old} keys n below = elim (cases_Bool (is_match word)) [
-  | inl match ↦ ap (λ (rows : List (List ℕ)). drop keys rows) (rw match at n.rows)
-      ∙ drop-set-lt keys old flight.key _ below
-  | inr on ↦ ap (λ (rows : List (List ℕ)). drop keys rows) (rw on at n.rows)
-]
+notes_others {flight = flight} {old = old} keys n below =
+    ap (λ (rows : List (List ℕ)). drop keys rows) n.rows ∙ drop-set-lt keys old flight.key _ below
 
--- a job that was noted is still noted after the note of a walk's own row
-still_noted : (table : TableView) (keys : List ℕ) {flight : Flight} {word : ℕ} {old new : List (List ℕ)} → Notes flight word old new →
-    is_match word ≡ true → index_of word ≡ walk_row table flight.trie (key_at table keys flight.key) → (job : Job) →
+-- a job whose word stays is still noted
+as_before : (table : TableView) (keys : List ℕ) (old new : List (List ℕ)) (job : Job) →
+    slice_index (get_or new job.key []) job.trie ≡ slice_index (get_or old job.key []) job.trie →
     IsNotedAs table keys old job → IsNotedAs table keys new job
-still_noted table keys {flight = flight} {word = word} {old = old} {new = new} n match reaches job noted =
-    let row : List ℕ = set (get_or old flight.key []) flight.trie (index_of word) in
-    let is : new ≡ set old flight.key row = rw match at n.rows in
-    let now : slice_index (get_or new job.key []) job.trie ≡ walk_row table job.trie (key_at table keys job.key) =
+as_before table keys old new job same noted = (ap (λ (word : ℕ). index_of word) same ∙ noted.0, noted.1)
+
+-- so is each that isn't of the flight whose word is noted
+still_noted : (table : TableView) (keys : List ℕ) {flight : Flight} {word : ℕ} {old new : List (List ℕ)} →
+    Notes flight word old new → (job : Job) → IsNotedAs table keys old job →
+    (job_of flight ≡ job) ⊎ IsNotedAs table keys new job
+still_noted table keys {flight = flight} {word = word} {old = old} {new = new} n job noted =
+    let row : List ℕ = set (get_or old flight.key []) flight.trie word in
+    let is : new ≡ set old flight.key row = n.rows in
     elim (cases_eq job.key flight.key) [
       | inl key ↦ elim (cases_eq job.trie flight.trie) [
-        | inl trie ↦ (λ i. slice_index (get_or new (key i) []) (trie i)) ∙ n.number match ∙ reaches
-            ∙ (λ i. walk_row table (sym trie i) (key_at table keys (sym key i)))
+        | inl trie ↦ inl (λ i. record { key = sym key i; trie = sym trie i })
         | inr trie ↦ elim (cases_lt flight.key (length old)) [
-          | inl there ↦ (λ i. slice_index (get_or (is i) (key i) []) job.trie)
+          | inl there ↦ inr (as_before table keys old new job ((λ i. slice_index (get_or (is i) (key i) []) job.trie)
               ∙ ap (λ (them : List ℕ). slice_index them job.trie) (get_or-set_same old flight.key row [] there)
-              ∙ get_or-set_other (get_or old flight.key []) flight.trie job.trie (index_of word) 0 trie
-              ∙ ap (λ (k : ℕ). slice_index (get_or old k []) job.trie) (sym key) ∙ noted.0
-          | inr past ↦ ap (λ (rows : List (List ℕ)). slice_index (get_or rows job.key []) job.trie)
-              (is ∙ set_past old flight.key row past) ∙ noted.0
+              ∙ get_or-set_other (get_or old flight.key []) flight.trie job.trie word 0 trie
+              ∙ ap (λ (k : ℕ). slice_index (get_or old k []) job.trie) (sym key)) noted)
+          | inr past ↦ inr (as_before table keys old new job
+              (ap (λ (rows : List (List ℕ)). slice_index (get_or rows job.key []) job.trie)
+              (is ∙ set_past old flight.key row past)) noted)
         ]
       ]
-      | inr key ↦ ap (λ (rows : List (List ℕ)). slice_index (get_or rows job.key []) job.trie) is
-          ∙ ap (λ (them : List ℕ). slice_index them job.trie) (get_or-set_other old flight.key job.key row [] key)
-          ∙ noted.0
-    ] in
-    (now, noted.1)
+      | inr key ↦ inr (as_before table keys old new job
+          (ap (λ (rows : List (List ℕ)). slice_index (get_or rows job.key []) job.trie) is
+          ∙ ap (λ (them : List ℕ). slice_index them job.trie) (get_or-set_other old flight.key job.key row [] key))
+          noted)
+    ]
 
 -- what a slot that holds the flight of a job says of the job
 held_same : (slots : List (Option Flight)) {flight other : Flight} (lane : ℕ) →
@@ -101,7 +100,15 @@ module _ {table : TableView} {keys : List ℕ} where
       | inr apart ↦ inl (other, f, get_or-set_other before.slots lane other held None apart ∙ at, is)
     ]
 
-    -- after a match its row is noted
+    -- after a match its job is noted
+    own_noted : is_match (word_of table keys flight) ≡ true → (job : Job) → job_of flight ≡ job →
+        IsNotedAs table keys new job
+    own_noted match job own = subst (λ (it : Job). IsNotedAs table keys new it) own (
+      ap (λ (word : ℕ). index_of word) n.number ∙ taking.row match,
+      omega (arith, onward.row match, taking.row match),
+    )
+
+    -- so each job that was given out is, or is held by another slot
     noted_end : is_match (word_of table keys flight) ≡ true → AreNoted table keys record {
       jobs = before.jobs;
       given = before.given;
@@ -112,10 +119,12 @@ module _ {table : TableView} {keys : List ℕ} where
       each = λ m below. elim (a.each m below) [
         | inl held ↦ elim (held_else None (job_at table m) held) [
           | inl else ↦ inl else
-          | inr own ↦ inr (subst (λ (job : Job). IsNotedAs table keys new job) own
-              (n.number match ∙ taking.row match, omega (arith, onward.row match, taking.row match)))
+          | inr own ↦ inr (own_noted match (job_at table m) own)
         ]
-        | inr noted ↦ inr (still_noted table keys n match (taking.row match) (job_at table m) noted)
+        | inr noted ↦ elim (still_noted table keys n (job_at table m) noted) [
+          | inl own ↦ inr (own_noted match (job_at table m) own)
+          | inr still ↦ inr still
+        ]
       ];
     }
 
@@ -127,7 +136,6 @@ module _ {table : TableView} {keys : List ℕ} where
     } new
     noted_on on =
         let next : Flight = moved_to (word_of table keys flight) flight in
-        let same : new ≡ old = rw on at n.rows in
         record {
           flights = All-set (λ held. IfSome held (IsInWalk table keys before.given)) before.slots lane (Some next)
               (taking.node on) a.flights;
@@ -136,11 +144,10 @@ module _ {table : TableView} {keys : List ℕ} where
               | inl else ↦ inl else
               | inr own ↦ inl (lane, next, get_or-set_same before.slots lane (Some next) None within, own)
             ]
-            | inr noted ↦ inr (
-              ap (λ (rows : List (List ℕ)). slice_index (get_or rows (job_at table m).key [])
-                  (job_at table m).trie) same ∙ noted.0,
-              noted.1,
-            )
+            | inr noted ↦ elim (still_noted table keys n (job_at table m) noted) [
+              | inl own ↦ inl (lane, next, get_or-set_same before.slots lane (Some next) None within, own)
+              | inr still ↦ inr still
+            ]
           ];
         }
 

@@ -71,11 +71,11 @@ pub record HasCome (table : TableView) (flight : Flight) (rows : ℕ) : Type 0 w
   pub row : is_match flight.word ≡ true → index_of flight.word < length table.rows
   pub key : flight.key < rows
 
--- the flight came to a word that a lane may keep, and there is a place for the note of its row
-pub record HasRoom (flight : Flight) (rows : ℕ) : Type 0 where
-  pub lawful : EndsOrLeads flight
+-- there is a place for the note of the flight's word; and where there is one trie, it is of that one
+pub record HasRoom (one : Bool) (flight : Flight) (rows : ℕ) : Type 0 where
   pub key : flight.key < rows
   pub trie : flight.trie < row_len
+  pub at_first : one ≡ true → flight.trie ≡ 0
 
 -- so many slots were stepped, from one on and in order, and the later ones hold what they held
 pub record StepsLanes (table : TableView) (keys : List ℕ) (before : Machine) (old : List (List ℕ))
@@ -87,40 +87,34 @@ pub record StepsLanes (table : TableView) (keys : List ℕ) (before : Machine) (
   pub later : drop (from + count) now.slots ≡ drop (from + count) before.slots
   pub busy_is : busy ≡ count_by is_busy (take count (drop from before.slots))
 
--- ---- lanes that note the rows which their walks reach
+-- ---- lanes that note the words to which their walks come
 
 -- a job is on its way in a slot
 abbrev pub IsHeldIn : List (Option Flight) → Job → Type 0
 IsHeldIn slots job = (lane : ℕ) × (flight : Flight)
     × (slice_index_or slots lane None ≡ Some flight) × (job_of flight ≡ job)
 
--- the number of the row that its walk reaches is noted: in the row of its key, as the word of its
--- trie; and there is such a row
+-- a word that names the row which its walk reaches is noted: in the row of its key, as the word of
+-- its trie; and there is such a row
 abbrev pub IsNotedAs : TableView → List ℕ → List (List ℕ) → Job → Type 0
-IsNotedAs table keys rows job = (slice_index (slice_index_or rows job.key []) job.trie
+IsNotedAs table keys rows job = (index_of (slice_index (slice_index_or rows job.key []) job.trie)
     ≡ walk_row table job.trie (key_at table keys job.key))
     × (walk_row table job.trie (key_at table keys job.key) < length table.rows)
 
--- each busy slot holds a walk as far as it went, and of each job given out it is on its way, or its
--- row is noted
+-- each busy slot holds a walk as far as it went, and each job given out is on its way, or its row is
+-- noted
 pub record AreNoted (table : TableView) (keys : List ℕ) (machine : Machine) (rows : List (List ℕ))
     : Type 0 where
   pub flights : All (λ held. IfSome held (IsInWalk table keys machine.given)) machine.slots
   pub each : (n : ℕ) → n < machine.given →
       IsHeldIn machine.slots (job_at table n) ⊎ IsNotedAs table keys rows (job_at table n)
 
--- the rows after a flight's next word: after a match its row is noted
-abbrev pub notes_after : Flight → ℕ → List (List ℕ) → List (List ℕ)
-notes_after flight word rows = if is_match word
-    then noted_in flight.key flight.trie (index_of word) rows else rows
-
--- so they are, and after a match the number stands there
+-- the word of a flight is noted, and stands there
 pub record Notes (flight : Flight) (word : ℕ) (old new : List (List ℕ)) : Type 0 where
-  pub rows : new ≡ notes_after flight word old
-  pub number : is_match word ≡ true →
-      slice_index (slice_index_or new flight.key []) flight.trie ≡ index_of word
+  pub rows : new ≡ noted_in flight.key flight.trie word old
+  pub number : slice_index (slice_index_or new flight.key []) flight.trie ≡ word
 
--- four flights, from one on and in order, came to their words
+-- the words of four flights are noted, from one on and in order
 pub record NotesFour (flights : List Flight) (first : ℕ) (old new : List (List ℕ)) : Type 0 where
   pub one : List (List ℕ)
   pub two : List (List ℕ)
@@ -140,7 +134,7 @@ IsAfterRun table keys before slots now = (rows : List (List ℕ)) → now
     ≡ (flow_run table keys (record { machine = before; rows = rows }) slots).machine
 
 -- So many slots were stepped, from one on and in order, and the later ones hold what they held. The
--- rows of the walks that ended are noted.
+-- words to which walks came are noted.
 pub record NotesLanes (table : TableView) (keys : List ℕ) (before : Machine)
     (old : List (List ℕ)) (from count : ℕ) (now : Machine) (rows : List (List ℕ)) (busy : ℕ)
     : Type 0 where
@@ -155,16 +149,18 @@ pub record NotesLanes (table : TableView) (keys : List ℕ) (before : Machine)
 -- of each key and trie the row is noted, and it is one of the table
 pub record AreAllNoted (table : TableView) (keys : List ℕ) (rows : List (List ℕ)) : Type 0 where
   pub each : (key trie : ℕ) → key < keys_in table keys → trie < length table.roots →
-      slice_index (slice_index_or rows key []) trie ≡ walk_row table trie (key_at table keys key)
+      index_of (slice_index (slice_index_or rows key []) trie)
+      ≡ walk_row table trie (key_at table keys key)
   pub there : (key trie : ℕ) → key < keys_in table keys → trie < length table.roots →
-      slice_index (slice_index_or rows key []) trie < length table.rows
+      index_of (slice_index (slice_index_or rows key []) trie) < length table.rows
 
--- each word of the row is the greatest over the rows of the numbers in the first words
+-- each word of the row is the greatest over the rows that the first words name
 pub record IsRowOf (table : TableView) (noted : List ℕ) (tries : ℕ) (row : List ℕ) : Type 0 where
   pub len : length row ≡ row_len
   pub words : (category : ℕ) → category < row_len → slice_index row category
       ≡ greatest (map (λ trie. slice_index
-      (slice_index_or table.rows (slice_index noted trie) []) category) (range_with_len 0 tries))
+      (slice_index_or table.rows (index_of (slice_index noted trie)) []) category)
+      (range_with_len 0 tries))
 
 -- the first rows are so made of the old ones
 abbrev pub AreRowsOf : TableView → List (List ℕ) → ℕ → List (List ℕ) → Type 0

@@ -4,7 +4,6 @@ ghost use Rattle.std.specs.Prelude.{◌≡◌, ℕ, ◌+◌, ◌<◌, ◌≤◌,
 ghost use Rattle.std.specs.Prelude.{slice_index, slice_index_or};
 ghost use Rattle.std.specs.List.{list_all};
 ghost use Rattle.table_sizes.specs.Groups.{max_key_len};
-ghost use Rattle.table_sizes.specs.Sizes.{row_len};
 ghost use Rattle.flat_table.specs.Word.{index_of, is_match, is_node};
 ghost use Rattle.flow_core.specs.Rows.{joined_into};
 ghost use Rattle.flow_core.specs.Machine.{moved_to};
@@ -129,58 +128,44 @@ pub(crate) fn words_at(words: &[u64], places: &[u32; AT_ONCE]) -> [u64; AT_ONCE]
     ]
 }
 
-/// Whether one of four words ends a walk.
+/// Notes the word of the flight for its key and trie.
+///
+/// Of the notes for a key and trie only the last is read, whose word ends the walk. But a processor
+/// guesses badly which word does so, and a note takes less time than a wrong guess.
 #[inline]
-pub(crate) fn has_end(words: &[u64; AT_ONCE]) -> bool
-    requires { (k : ℕ) → k < AT_ONCE →
-        is_match (slice_index words.now k) ≡ false → is_node (slice_index words.now k) ≡ true }
-    ensures { result ≡ false → (k : ℕ) → k < AT_ONCE →
-        is_match (slice_index words.now k) ≡ false }
-{
-    // All four are asked at once, since one test of the words together takes fewer steps.
-    is_end(words[0]) | is_end(words[1]) | is_end(words[2]) | is_end(words[3])
-}
-
-/// Where the flight came to a match, the row that it names is noted for its key and trie.
-#[inline]
-pub(crate) fn note_ended(scratch: &mut Scratch, flight: &Flight)
-    requires { HasRoom flight.now (length scratch.old) }
+pub(crate) fn note_word<const ONE: bool>(scratch: &mut Scratch, flight: &Flight)
+    requires { HasRoom ONE flight.now (length scratch.old) }
     ensures notes { Notes flight.now flight.now.word scratch.old scratch.new }
     ensures len { length scratch.new ≡ length scratch.old }
 {
-    if is_end(flight.word) {
-        scratch.note(flight.key, flight.trie, index_of(flight.word) as u64);
-    }
+    let flight = of_trie::<ONE>(*flight);
+    scratch.note(flight.key, flight.trie, flight.word);
 }
 
-/// The next word of a flight. After a match the row that it names is noted for the flight's key
-/// and trie.
+/// The next word of a flight, which is noted for the flight's key and trie.
 #[inline]
-pub(crate) fn land_noted(scratch: &mut Scratch, flight: &mut Flight, word: u64)
+pub(crate) fn land_noted<const ONE: bool>(scratch: &mut Scratch, flight: &mut Flight, word: u64)
     requires lawful { is_match word ≡ false → is_node word ≡ true }
     requires depth { flight.old.depth < max_key_len }
-    requires key { flight.old.key < length scratch.old }
-    requires trie { flight.old.trie < row_len }
+    requires room { HasRoom ONE flight.old (length scratch.old) }
     ensures held { held_in flight.new ≡ held_after flight.old word }
     ensures lawful { EndsOrLeads flight.new }
     ensures notes { Notes flight.old word scratch.old scratch.new }
 {
     go_on(flight, word);
-    note_ended(scratch, flight);
+    note_word::<ONE>(scratch, flight);
 }
 
-/// Notes the rows of those of four flights, from one on and in order, that came to a match.
-///
-/// It is not inlined, and reads the flights itself, so that no one keeps them until then.
-#[inline(never)]
-pub(crate) fn note_each(scratch: &mut Scratch, flights: &[Flight], first: usize)
+/// Notes the words of four flights, from one on and in order.
+#[inline]
+pub(crate) fn note_each<const ONE: bool>(scratch: &mut Scratch, flights: &[Flight], first: usize)
     requires room { first + AT_ONCE ≤ length flights.now }
-    requires come { (k : ℕ) → k < AT_ONCE → HasRoom
+    requires come { (k : ℕ) → k < AT_ONCE → HasRoom ONE
         (slice_index_or flights.now (first + k) no_one) (length scratch.old) }
     ensures { NotesFour flights.now first scratch.old scratch.new }
 {
-    note_ended(scratch, &flights[first]);
-    note_ended(scratch, &flights[first + 1]);
-    note_ended(scratch, &flights[first + 2]);
-    note_ended(scratch, &flights[first + 3]);
+    note_word::<ONE>(scratch, &flights[first]);
+    note_word::<ONE>(scratch, &flights[first + 1]);
+    note_word::<ONE>(scratch, &flights[first + 2]);
+    note_word::<ONE>(scratch, &flights[first + 3]);
 }

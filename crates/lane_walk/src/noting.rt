@@ -1,20 +1,17 @@
-//! A flow machine by lanes whose turns note which rows the walks reach, and join none. Where four
-//! lanes are busy, none of them asks again.
+//! A flow machine by lanes whose turns note the words to which the walks come, and join no rows.
+//! Where four lanes are busy, none of them asks again.
 
-ghost use Rattle.std.specs.Prelude.{◌≡◌, ℕ, ◌+◌, ◌*◌, ◌<◌, ◌≤◌, length, drop, true, false, None, []};
-ghost use Rattle.std.specs.Prelude.{slice_index, slice_index_or};
+ghost use Rattle.std.specs.Prelude.{◌≡◌, ℕ, ◌+◌, ◌*◌, ◌<◌, ◌≤◌, length, drop, true, false, None};
+ghost use Rattle.std.specs.Prelude.{slice_index_or};
 ghost use Rattle.std.specs.List.{range_with_len};
-ghost use Rattle.table_sizes.specs.Groups.{max_key_len};
-ghost use Rattle.table_sizes.specs.Sizes.{row_len};
 ghost use Rattle.flat_table.specs.Batch.{keys_in};
-ghost use Rattle.flat_table.specs.Word.{index_of, is_match, is_node};
-ghost use Rattle.flow_core.specs.Machine.{Machine, first_machine, moved_to};
-ghost use Rattle.flow_core.specs.Standing.{BatchFits, StandsOver, LeadsOnward, held_after};
-ghost use Rattle.lane_walk.specs.Turn.{IsLanes, is_busy, busy_slots, held_in, no_one};
-ghost use Rattle.lane_walk.specs.Turn.{AreBusy, AreIdle, EndsOrLeads, HasRoom, IsPlaceOf};
-ghost use Rattle.lane_walk.specs.Turn.{AreNoted, IsAfterRun, Notes, NotesFour, NotesLanes};
+ghost use Rattle.flow_core.specs.Machine.{Machine, first_machine};
+ghost use Rattle.flow_core.specs.Standing.{BatchFits, StandsOver};
+ghost use Rattle.lane_walk.specs.Turn.{IsLanes, is_busy, busy_slots};
+ghost use Rattle.lane_walk.specs.Turn.{AreBusy, AreIdle, IsPlaceOf};
+ghost use Rattle.lane_walk.specs.Turn.{AreNoted, IsAfterRun, NotesLanes};
 
-use crate::flights::{AT_ONCE, go_on, has_end, land_noted, no_flight, note_each, words_at};
+use crate::flights::{AT_ONCE, go_on, land_noted, no_flight, note_each, words_at};
 use crate::lanes::LaneFlows;
 use flat_table::Table;
 use flow_core::laws::stay_in;
@@ -63,7 +60,7 @@ impl<const W: usize> LaneFlows<W> {
 
     /// A step of a busy lane, which takes the word at the place.
     #[inline]
-    fn note_lane(
+    fn note_lane<const ONE: bool>(
         &mut self,
         table: &Table,
         keys: &[u8],
@@ -71,6 +68,7 @@ impl<const W: usize> LaneFlows<W> {
         lane: usize,
         place: usize,
     )
+        requires one { ONE ≡ true → length table.now.roots ≡ 1 }
         requires width { W ≤ 16 }
         requires lane { lane < W }
         requires stands { StandsOver table.now keys.now self.old (length scratch.old) }
@@ -83,7 +81,7 @@ impl<const W: usize> LaneFlows<W> {
         stay_in(table);
         let flight = &mut self.flights[lane];
         let word = table.words()[place];
-        land_noted(scratch, flight, word);
+        land_noted::<ONE>(scratch, flight, word);
     }
 
     /// A step of an empty lane, which takes the next job, if one is left.
@@ -106,7 +104,7 @@ impl<const W: usize> LaneFlows<W> {
     /// A step of the lane, and how many lanes were busy before it: 1 or 0. A busy lane takes the
     /// word at the place.
     #[inline]
-    fn note_or_take(
+    fn note_or_take<const ONE: bool>(
         &mut self,
         table: &Table,
         keys: &[u8],
@@ -114,6 +112,7 @@ impl<const W: usize> LaneFlows<W> {
         lane: usize,
         place: usize,
     ) -> u32
+        requires one { ONE ≡ true → length table.now.roots ≡ 1 }
         requires width { W ≤ 16 }
         requires lane { lane < W }
         requires stands { StandsOver table.now keys.now self.old (length scratch.old) }
@@ -123,7 +122,7 @@ impl<const W: usize> LaneFlows<W> {
             result }
     {
         if self.is_busy(lane) {
-            self.note_lane(table, keys, scratch, lane, place);
+            self.note_lane::<ONE>(table, keys, scratch, lane, place);
             return 1;
         }
         self.take_job(table, keys, scratch, lane);
@@ -169,10 +168,7 @@ impl<const W: usize> LaneFlows<W> {
         go_on(&mut self.flights[first + 1], words[1]);
         go_on(&mut self.flights[first + 2], words[2]);
         go_on(&mut self.flights[first + 3], words[3]);
-        if !has_end(&words) {
-            return;
-        }
-        note_each(scratch, &self.flights, first);
+        note_each::<ONE>(scratch, &self.flights, first);
     }
 
     /// A step of each of four lanes, from one on and in order, and how many of them were busy
@@ -200,7 +196,7 @@ impl<const W: usize> LaneFlows<W> {
         let places = self.places_from::<ONE, false>(table, keys, first);
         let mut busy = 0;
         for k in 0..AT_ONCE {
-            busy += self.note_or_take(table, keys, scratch, first + k, places[k] as usize);
+            busy += self.note_or_take::<ONE>(table, keys, scratch, first + k, places[k] as usize);
         }
         busy
     }
@@ -230,7 +226,7 @@ impl<const W: usize> LaneFlows<W> {
     }
 
     /// A step of each slot, in order, as [`LaneFlows::turn`] does it, and how many of them were
-    /// busy before. The rows that walks reach are noted, and not joined.
+    /// busy before. The words to which walks come are noted, and no rows joined.
     #[inline]
     pub(crate) fn turn_noting<const ONE: bool>(
         &mut self,

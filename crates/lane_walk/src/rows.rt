@@ -1,11 +1,11 @@
-//! The rows of keys, joined of those that their walks noted.
+//! The rows of keys, joined of those that their walks reached.
 
-ghost use Rattle.std.specs.Prelude.{◌≡◌, ℕ, ◌<◌, ◌≤◌, length, drop, take, slice_index, slice_index_or, []};
+ghost use Rattle.std.specs.Prelude.{◌≡◌, ℕ, ◌<◌, ◌≤◌, length, drop, slice_index, slice_index_or, []};
 ghost use Rattle.table_sizes.specs.Sizes.{row_len};
-ghost use Rattle.flat_table.specs.Batch.{keys_in};
-ghost use Rattle.lane_walk.specs.Turn.{AreAllNoted, AreRowsOf, IsRowOf};
+ghost use Rattle.flat_table.specs.Word.{index_of};
+ghost use Rattle.lane_walk.specs.Turn.{AreRowsOf, IsRowOf};
 
-use flat_table::Table;
+use flat_table::{Table, index_of};
 use flow_core::{Scratch, join_rows};
 use table_sizes::ROW_LEN;
 
@@ -18,30 +18,30 @@ fn copied(row: &[u64; ROW_LEN]) -> [u64; ROW_LEN]
     *row
 }
 
-/// The joined row of the rows whose numbers stand in the first words, one for each trie.
+/// The joined row of the rows that the first words name, one for each trie.
 #[inline]
 fn joined_of(table: &Table, noted: &[u64; ROW_LEN]) -> [u64; ROW_LEN]
     requires { (trie : ℕ) → trie < length table.now.roots →
-        slice_index noted.now trie < length table.now.rows }
+        index_of (slice_index noted.now trie) < length table.now.rows }
     ensures { IsRowOf table.now noted.now (length table.now.roots) result }
 {
     // With one trie there is nothing to join.
     let tries = table.tries();
     if tries == 1 {
-        return copied(table.row(noted[0] as usize));
+        return copied(table.row(index_of(noted[0])));
     }
     let mut row = [0; ROW_LEN];
     for trie in 0..tries {
-        join_rows(&mut row, table.row(noted[trie] as usize));
+        join_rows(&mut row, table.row(index_of(noted[trie])));
     }
     row
 }
 
-/// Makes the rows of the first keys the joined ones of the rows that are noted in them.
+/// Makes the rows of the first keys the joined ones of the rows that the words noted in them name.
 pub(crate) fn join_noted(table: &Table, scratch: &mut Scratch, keys: usize)
     requires keys { keys ≤ length scratch.old }
     requires there { (k trie : ℕ) → k < keys → trie < length table.now.roots →
-        slice_index (slice_index_or scratch.old k []) trie < length table.now.rows }
+        index_of (slice_index (slice_index_or scratch.old k []) trie) < length table.now.rows }
     ensures rows { AreRowsOf table.now scratch.old keys scratch.new }
     ensures others { drop keys scratch.new ≡ drop keys scratch.old }
     ensures len { length scratch.new ≡ length scratch.old }

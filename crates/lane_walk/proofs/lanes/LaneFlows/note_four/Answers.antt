@@ -3,7 +3,7 @@ use Rattle.std.specs.Prelude.{slice_index}
 use Rattle.flow_core.specs.declared.flight.Flight.{Flight}
 use Rattle.lane_walk.specs.Turn.{no_one}
 use Rattle.lane_walk.proofs.Fours.{at_once, depth_below, four_room, four_go, four_goes, four_there, fourth_is}
-use Rattle.lane_walk.proofs.Fours.{four_lawful, leads, none_end}
+use Rattle.lane_walk.proofs.Fours.{four_lawful}
 use Rattle.lane_walk.proofs.Fours.{second_is, third_is}
 use Rattle.table_sizes.specs.Groups.{max_key_len}
 use Rattle.lane_walk.proofs.lanes.LaneFlows.note_four.Goals as goal
@@ -16,15 +16,6 @@ words_at-words-requires g c k h =
     c.places_from-places.ensures c.stay_in.ensures.stay c.stay_in.ensures.sound bytes in
     four_there flights a c.words.ensures k h
 
-pub has_end-requires : goal.has_end-requires
-has_end-requires g c k h =
-    let flights = c.self.inside.flights in
-    let bytes : (i : ℕ) → slice_index c.args.keys.now i < 256 = λ i. omega (arith, c.type_inv.keys i) in
-    let a = at_once c.self.view_is c.requires.stands c.requires.first c.self.told c.requires.busy
-    c.places_from-places.ensures c.stay_in.ensures.stay c.stay_in.ensures.sound bytes in
-    let goes = four_goes flights a c.words_at-words.result c.words.ensures c.words_at-words.ensures in
-    leads (goes k h).onward
-
 pub note_each-requires-clause-room : goal.note_each-requires-clause-room
 note_each-requires-clause-room g c = omega (arith, c.requires.first, c.self.told)
 
@@ -36,7 +27,7 @@ note_each-requires-clause-come g c k h =
     c.places_from-places.ensures c.stay_in.ensures.stay c.stay_in.ensures.sound bytes in
     let goes = four_goes flights a c.words_at-words.result c.words.ensures c.words_at-words.ensures in
     four_room flights a c.words_at-words.result goes c.go_on.ensures c.go_on-2.ensures c.go_on-3.ensures
-    c.go_on-4.ensures c.stay_in.ensures.few k h
+    c.go_on-4.ensures c.requires.one c.stay_in.ensures.few k h
 
 pub returns : goal.returns
 returns g c =
@@ -47,19 +38,6 @@ returns g c =
     let goes = four_goes flights a c.words_at-words.result c.words.ensures c.words_at-words.ensures in
     four_go flights a c.words_at-words.result goes c.go_on.ensures c.go_on-2.ensures c.go_on-3.ensures
     c.go_on-4.ensures c.note_each.ensures
-
-pub returns-then-not-has_end : goal.returns-then-not-has_end
-returns-then-not-has_end g c =
-    let flights = c.self.inside.flights in
-    let bytes : (i : ℕ) → slice_index c.args.keys.now i < 256 = λ i. omega (arith, c.type_inv.keys i) in
-    let a = at_once c.self.view_is c.requires.stands c.requires.first c.self.told c.requires.busy
-    c.places_from-places.ensures c.stay_in.ensures.stay c.stay_in.ensures.sound bytes in
-    let goes = four_goes flights a c.words_at-words.result c.words.ensures c.words_at-words.ensures in
-    let none = c.has_end.ensures c.if-not-has_end.true in
-    four_go flights a c.words_at-words.result goes c.go_on.ensures c.go_on-2.ensures c.go_on-3.ensures
-    c.go_on-4.ensures
-    (none_end flights a c.words_at-words.result goes c.go_on.ensures c.go_on-2.ensures c.go_on-3.ensures
-    c.go_on-4.ensures none)
 
 pub go_on-requires : goal.go_on-requires
 go_on-requires g c =
@@ -107,16 +85,6 @@ go_on-requires-4 g c =
 
 pub invariant_of-self : goal.invariant_of-self
 invariant_of-self g c =
-    let flights = c.self.inside.flights in
-    let bytes : (i : ℕ) → slice_index c.args.keys.now i < 256 = λ i. omega (arith, c.type_inv.keys i) in
-    let a = at_once c.self.view_is c.requires.stands c.requires.first c.self.told c.requires.busy
-    c.places_from-places.ensures c.stay_in.ensures.stay c.stay_in.ensures.sound bytes in
-    let goes = four_goes flights a c.words_at-words.result c.words.ensures c.words_at-words.ensures in
-    four_lawful flights a c.words_at-words.result goes c.go_on.ensures c.go_on-2.ensures c.go_on-3.ensures
-    c.go_on-4.ensures c.self.invariant
-
-pub invariant_of-self-2 : goal.invariant_of-self-2
-invariant_of-self-2 g c =
     let flights = c.self.inside.flights in
     let bytes : (i : ℕ) → slice_index c.args.keys.now i < 256 = λ i. omega (arith, c.type_inv.keys i) in
     let a = at_once c.self.view_is c.requires.stands c.requires.first c.self.told c.requires.busy

@@ -4,9 +4,8 @@ use Rattle.std.proofs.lemmas.List.Elements.{All-set, All-from_get_or}
 use Rattle.flat_table.proofs.Offered.{places_bound}
 use Rattle.flow_core.specs.declared.flight.Flight.{Flight}
 use Rattle.flow_core.specs.Standing.{held_after, LeadsOnward}
-use Rattle.flow_core.proofs.Offered.{key_of_flight, trie_of_flight}
 use Rattle.lane_walk.specs.Turn.{EndsOrLeads, Notes, no_one}
-use Rattle.lane_walk.proofs.Fours.{leads}
+use Rattle.lane_walk.proofs.Fours.{leads, room_of}
 use Rattle.lane_walk.proofs.Held.{busy_lane}
 use Rattle.lane_walk.proofs.NoteSteps.{landed_noted}
 use Rattle.lane_walk.proofs.Landing.{lands, place_there, word_leads, word_is}
@@ -49,21 +48,13 @@ land_noted-requires-clause-depth g c =
       c.stay_in.ensures.short,
     )
 
-pub land_noted-requires-clause-key : goal.land_noted-requires-clause-key
-land_noted-requires-clause-key g c =
+pub land_noted-requires-clause-room : goal.land_noted-requires-clause-room
+land_noted-requires-clause-room g c =
     let bytes : (i : ℕ) → slice_index c.args.keys.now i < 256 = λ i. omega (arith, c.type_inv.keys i) in
     let b = busy_lane c.self.inside.flights c.self.view_is c.requires.stands c.requires.lane c.self.told
     c.requires.busy no_one in
     let l = lands b.lent b.holds c.stay_in.ensures.stay c.stay_in.ensures.sound bytes c.requires.place in
-    omega (arith, key_of_flight l.on_way, c.requires.stands.fits.room)
-
-pub land_noted-requires-clause-trie : goal.land_noted-requires-clause-trie
-land_noted-requires-clause-trie g c =
-    let bytes : (i : ℕ) → slice_index c.args.keys.now i < 256 = λ i. omega (arith, c.type_inv.keys i) in
-    let b = busy_lane c.self.inside.flights c.self.view_is c.requires.stands c.requires.lane c.self.told
-    c.requires.busy no_one in
-    let l = lands b.lent b.holds c.stay_in.ensures.stay c.stay_in.ensures.sound bytes c.requires.place in
-    omega (arith, trie_of_flight l.on_way, c.stay_in.ensures.few)
+    room_of l.on_way c.requires.stands.fits.room c.stay_in.ensures.few c.requires.one
 
 pub returns : goal.returns
 returns g c =
