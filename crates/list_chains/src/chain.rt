@@ -60,7 +60,7 @@ impl ChainRule {
     }
 
     /// The answer for packets that it decides.
-    pub(crate) fn userdata(&self) -> u32
+    pub fn userdata(&self) -> u32
         ensures { result ≡ self.now.userdata }
     {
         self.userdata
@@ -81,7 +81,7 @@ impl ChainRule {
     }
 
     /// What it does with the packets that it catches.
-    pub(crate) fn target(&self) -> Target
+    pub fn target(&self) -> Target
         ensures { result ≡ self.now.target }
     {
         self.target

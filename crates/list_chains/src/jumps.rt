@@ -48,8 +48,8 @@ fn leads_well(marks: &[bool], rule: &ChainRule) -> bool
     }
 }
 
-/// The chain that a target leads to.
-fn led_to(target: Target) -> Option<usize>
+/// The place of the chain that a target leads to. It takes no memory.
+pub fn led_to(target: Target) -> Option<usize>
     ensures { result ≡ led_to target }
 {
     match target {

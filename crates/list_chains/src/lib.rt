@@ -30,6 +30,7 @@ mod values;
 
 pub use chain::{Chain, ChainRule, Target};
 pub use fault::{ChainsFault, LimitFault, RulePlace};
+pub use jumps::led_to;
 pub use negation::others;
-pub use span::{Span, SpanBox};
+pub use span::{Span, SpanBox, common};
 pub use turning::rules_of_chains;

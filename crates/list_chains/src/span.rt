@@ -91,8 +91,8 @@ fn whole_span(def: &FieldDef) -> Span
     Span { low: 0, high }
 }
 
-/// What two spans have in common.
-fn common(one: Span, other: Span) -> Span
+/// The numbers of both spans, which may be none. It takes no memory.
+pub fn common(one: Span, other: Span) -> Span
     ensures { result ≡ common one other }
 {
     Span {
