@@ -1,0 +1,311 @@
+//! Numbers, protocols, ports and networks, as a word spells them.
+
+ghost use Rattle.std.specs.Prelude.{◌≡◌, ◌≤◌, ◌<◌, ◌^◌, IfSome};
+ghost use Rattle.iptables_reader.specs.Values.{address_alone, address_of, closed_span, filled_range};
+ghost use Rattle.iptables_reader.specs.Values.{filled_span, has_ports, wide_span};
+ghost use Rattle.iptables_reader.specs.Values.{ip4_spans, ip4_plain, ip6_spans, is_closed};
+ghost use Rattle.iptables_reader.specs.Values.{is_counters, is_opened, is_plain, most_bits, network_of};
+ghost use Rattle.iptables_reader.specs.Values.{plain_number, port_or, port_span, prefix_span};
+ghost use Rattle.iptables_reader.specs.Values.{protocol_span, range_of, spans_of_address};
+ghost use Rattle.iptables_reader.specs.Tables.{protocol_of};
+
+use crate::tables::{number_in, protocols};
+use field_defs::Family;
+use list_chains::Span;
+use text_scan::{digits_value, ip4_text, ip6_text, put_ip4, split_once};
+
+/// The greatest port.
+pub(crate) const MAX_PORT: u64 = 65_535;
+
+/// The greatest number of a protocol.
+const MAX_PROTOCOL: u64 = 255;
+
+/// The spans of an address's two halves of 64 bits. An IPv4 address has the low one alone.
+#[derive(Clone, Copy)]
+pub(crate) struct AddressSpans {
+    pub(crate) high: Span,
+    pub(crate) low: Span,
+}
+
+/// The addresses from one to another.
+#[derive(Clone, Copy)]
+pub(crate) struct AddressRange {
+    pub(crate) low: u128,
+    pub(crate) high: u128,
+}
+
+/// The number that a word spells in decimal, without leading zeros and at most so great.
+pub(crate) fn plain_number(word: &[u8], greatest: u64) -> Option<u64>
+    ensures number { result ≡ plain_number greatest word.now }
+    ensures bound { IfSome result (λ number. number ≤ greatest) }
+{
+    if !is_plain(word) {
+        return None;
+    }
+    let number = digits_value(word, 10)?;
+    (number <= greatest).then_some(number)
+}
+
+/// Whether a word has a byte, and no zero before others.
+fn is_plain(word: &[u8]) -> bool
+    ensures { result ≡ is_plain word.now }
+{
+    !matches!(word, [] | [b'0', _, ..])
+}
+
+/// The span of a port, or of two around `:`, the lower first.
+pub(crate) fn closed_span(word: &[u8]) -> Option<Span>
+    ensures { result ≡ closed_span word.now }
+{
+    match split_once(word, b':') {
+        Some((low, high)) => {
+            let low = plain_number(low, MAX_PORT)?;
+            wide_span(low, plain_number(high, MAX_PORT)?)
+        }
+        None => {
+            let port = plain_number(word, MAX_PORT)?;
+            filled_span(port, port)
+        }
+    }
+}
+
+/// The same, where the least port may be left out before `:`, and the greatest after it.
+pub(crate) fn port_span(word: &[u8]) -> Option<Span>
+    ensures { result ≡ port_span word.now }
+{
+    match split_once(word, b':') {
+        Some((low, high)) => {
+            let low = port_or(low, 0)?;
+            filled_span(low, port_or(high, MAX_PORT)?)
+        }
+        None => closed_span(word),
+    }
+}
+
+/// A port, or another one where it is left out.
+fn port_or(text: &[u8], other: u64) -> Option<u64>
+    ensures { result ≡ port_or other text.now }
+{
+    if text.is_empty() {
+        return Some(other);
+    }
+    plain_number(text, MAX_PORT)
+}
+
+/// The span from one number to another that is above it.
+fn wide_span(low: u64, high: u64) -> Option<Span>
+    ensures { result ≡ wide_span low high }
+{
+    if low == high {
+        return None;
+    }
+    filled_span(low, high)
+}
+
+/// The span from one number to another, if that isn't below the first.
+fn filled_span(low: u64, high: u64) -> Option<Span>
+    ensures { result ≡ filled_span low high }
+{
+    if low <= high {
+        Some(Span { low, high })
+    } else {
+        None
+    }
+}
+
+/// The number of a protocol, by its name or its number. 0 stands for all.
+pub(crate) fn protocol(word: &[u8]) -> Option<u64>
+    ensures { result ≡ protocol_of word.now }
+{
+    match number_in(protocols(), word) {
+        Some(number) => Some(number),
+        None => plain_number(word, MAX_PROTOCOL),
+    }
+}
+
+/// How many bits an address of the family has.
+fn most_bits(family: Family) -> u64
+    ensures is { result ≡ most_bits family }
+    ensures few { result ≤ 128 }
+{
+    match family {
+        Family::Ip4 => 32,
+        Family::Ip6 => 128,
+    }
+}
+
+/// The halves of an address with a prefix length, or without, where all bits count.
+pub(crate) fn network(family: Family, word: &[u8]) -> Option<AddressSpans>
+    ensures { result ≡ network_of family word.now }
+{
+    match split_once(word, b'/') {
+        Some((text, bits)) => {
+            let bits = plain_number(bits, most_bits(family))?;
+            address_spans(family, text, bits)
+        }
+        None => address_spans(family, word, most_bits(family)),
+    }
+}
+
+/// The halves of an address alone.
+pub(crate) fn address_alone(family: Family, text: &[u8]) -> Option<AddressSpans>
+    ensures { result ≡ address_alone family text.now }
+{
+    address_spans(family, text, most_bits(family))
+}
+
+/// The number of an address.
+fn address(family: Family, text: &[u8]) -> Option<u128>
+    ensures { result ≡ address_of family text.now }
+{
+    match family {
+        Family::Ip4 => Some(u128::from(ip4_plain(text)?)),
+        Family::Ip6 => ip6_text(text),
+    }
+}
+
+/// The addresses from one to another around `-`, or one alone.
+pub(crate) fn address_range(family: Family, word: &[u8]) -> Option<AddressRange>
+    ensures { result ≡ range_of family word.now }
+{
+    match split_once(word, b'-') {
+        Some((low, high)) => {
+            let low = address(family, low)?;
+            filled_range(low, address(family, high)?)
+        }
+        None => {
+            let only = address(family, word)?;
+            filled_range(only, only)
+        }
+    }
+}
+
+/// The addresses from one to another, if that isn't below the first.
+fn filled_range(low: u128, high: u128) -> Option<AddressRange>
+    ensures { result ≡ filled_range low high }
+{
+    if low <= high {
+        Some(AddressRange { low, high })
+    } else {
+        None
+    }
+}
+
+/// The halves of an address, of which so many leading bits count.
+fn address_spans(family: Family, text: &[u8], bits: u64) -> Option<AddressSpans>
+    requires { bits ≤ most_bits family }
+    ensures { result ≡ spans_of_address family text.now bits }
+{
+    match family {
+        Family::Ip4 => Some(ip4_spans(ip4_plain(text)?, bits)),
+        Family::Ip6 => Some(ip6_spans(ip6_text(text)?, bits)),
+    }
+}
+
+/// The IPv4 address that a text spells as it is printed, without leading zeros.
+fn ip4_plain(text: &[u8]) -> Option<u32>
+    ensures { result ≡ ip4_plain text.now }
+{
+    let address = ip4_text(text)?;
+    let mut printed = [0; 40];
+    let len = put_ip4(address, &mut printed);
+    (text == &printed[..len]).then_some(address)
+}
+
+/// The halves of an IPv4 address, of which so many leading bits count.
+pub(crate) fn ip4_spans(address: u32, bits: u64) -> AddressSpans
+    requires { bits ≤ 32 }
+    ensures { result ≡ ip4_spans address bits }
+{
+    AddressSpans {
+        high: prefix_span(0, 64),
+        low: prefix_span(u64::from(address), 32 - bits as u32),
+    }
+}
+
+/// The halves of an IPv6 address, of which so many leading bits count.
+pub(crate) fn ip6_spans(address: u128, bits: u64) -> AddressSpans
+    requires { bits ≤ 128 }
+    ensures { result ≡ ip6_spans address bits }
+{
+    let bits = bits as u32;
+    AddressSpans {
+        high: prefix_span((address >> 64) as u64, 64 - bits.min(64)),
+        low: prefix_span((address & u128::from(u64::MAX)) as u64, 128 - bits.max(64)),
+    }
+}
+
+/// The span of the numbers that agree with a number in all but their last free bits.
+fn prefix_span(number: u64, free: u32) -> Span
+    requires { free ≤ 64 }
+    ensures { result ≡ prefix_span number free }
+{
+    let size = power(free);
+    let low = u128::from(number) / size * size;
+    Span {
+        low: low as u64,
+        high: (low + (size - 1)) as u64,
+    }
+}
+
+/// How many numbers so many free bits have.
+fn power(free: u32) -> u128
+    requires { free ≤ 64 }
+    ensures is { result ≡ 2 ^ free }
+    ensures some { 0 < result }
+{
+    1 << free
+}
+
+/// The span of the numbers that a protocol stands for.
+pub(crate) fn protocol_span(number: u64) -> Span
+    ensures { result ≡ protocol_span number }
+{
+    if number == 0 {
+        return Span {
+            low: 0,
+            high: MAX_PROTOCOL,
+        };
+    }
+    Span {
+        low: number,
+        high: number,
+    }
+}
+
+/// Whether a word is counters of packets and bytes, as `[0:0]`.
+pub(crate) fn is_counters(word: &[u8]) -> bool
+    ensures { result ≡ is_counters word.now }
+{
+    match split_once(word, b':') {
+        Some((packets, bytes)) => is_opened(packets) && is_closed(bytes),
+        None => false,
+    }
+}
+
+/// Whether a text is `[` and a number.
+fn is_opened(text: &[u8]) -> bool
+    ensures { result ≡ is_opened text.now }
+{
+    match text {
+        [b'[', number @ ..] => plain_number(number, u64::MAX).is_some(),
+        _ => false,
+    }
+}
+
+/// Whether a text is a number and `]`.
+fn is_closed(text: &[u8]) -> bool
+    ensures { result ≡ is_closed text.now }
+{
+    match split_once(text, b']') {
+        Some((number, rest)) => rest.is_empty() && plain_number(number, u64::MAX).is_some(),
+        None => false,
+    }
+}
+
+/// Whether the protocol of a number has ports that keys have: TCP, UDP and SCTP.
+pub(crate) fn has_ports(number: u64) -> bool
+    ensures { result ≡ has_ports number }
+{
+    number == 6 || number == 17 || number == 132
+}
