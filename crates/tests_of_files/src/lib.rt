@@ -19,6 +19,7 @@
 //! | `numbers` | numbers that bytes spell in either order |
 //! | `ranks` | ranks by priorities and places |
 //! | `rule_files` | rule files as people write them, printed rules and lists |
+//! | `saved_lists` | lists of iptables-save, and the packets that they decide |
 //! | `stored` | rules that are stored |
 //! | `texts` | texts of addresses and numbers |
 //! | `verdicts` | verdicts of the plain filter |
@@ -46,6 +47,8 @@ mod numbers;
 mod ranks;
 #[cfg(test)]
 mod rule_files;
+#[cfg(test)]
+mod saved_lists;
 #[cfg(test)]
 mod stored;
 #[cfg(test)]
