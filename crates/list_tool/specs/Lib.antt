@@ -1,0 +1,13 @@
+pub mod Listing
+pub mod Words
+pub mod Requests
+pub mod Printed
+pub mod Decides
+pub mod Texts
+pub mod Message
+pub mod RunsLists
+pub mod RunsAnew
+pub mod Steps
+pub mod WordsExamples
+pub mod ListExamples
+pub mod PrintedExamples

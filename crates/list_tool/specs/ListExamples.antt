@@ -1,0 +1,79 @@
+-- Examples of runs that are refused, each checked by evaluation, and the lines that tell it.
+use Rattle.std.specs.Prelude.{◌≡◌, ℕ, List, [], ◌∷◌, ◌++◌, codes, refl}
+use Rattle.std.specs.Fmt.{digits}
+use Rattle.command_words.specs.declared.usage_fault.UsageKind.TheVariants.{UnknownCommand}
+use Rattle.iptables_reader.specs.declared.fault.LineKind.TheVariants as kind
+use Rattle.iptables_reader.specs.declared.table.Answers.{Answers}
+use Rattle.iptables_reader.specs.declared.table.Answers.TheVariants as answers
+use Rattle.iptables_reader.specs.Table.{with_lines}
+use Rattle.iptables_reader.specs.Tables.{match_table, protocol_table, target_table}
+use Rattle.list_tool.specs.declared.status.ListStatus.{ListStatus}
+use Rattle.list_tool.specs.declared.status.ListStatus.TheVariants.{Usage, Refused, ReadFault}
+use Rattle.list_tool.specs.declared.status.ListKind.TheVariants.{Line, NoChain, NoPolicy, Loop}
+use Rattle.list_tool.specs.declared.words.Form.{Form}
+use Rattle.list_tool.specs.declared.words.Form.TheVariants.{Iptables}
+use Rattle.list_tool.specs.Listing.{at_line}
+use Rattle.list_tool.specs.Message.{message}
+use Rattle.list_tool.specs.RunsLists.{ListOutcome, outcome}
+use Rattle.list_tool.specs.Words.{Request, fault_at}
+
+-- a list whose chain INPUT leads to its chain web
+list : List ℕ
+list =
+    codes "*filter\n:INPUT DROP [0:0]\n:web - [0:0]\n"
+    ++ codes "-A INPUT -s 10.0.0.0/8 -p tcp -j web\n"
+    ++ codes "-A INPUT -p udp -m udp --dport 53 -j ACCEPT\n"
+    ++ codes "-A web -p tcp -m tcp --dport 80 -j REJECT\nCOMMIT\n"
+
+-- what is asked for of a chain of a list
+abbrev asked : Form → List ℕ → Answers → Request
+asked form chain answers = record {
+  form = form;
+  file = codes "fw.list";
+  chain = chain;
+  options = record { answers = answers; assumed = [] };
+}
+
+-- what a run comes to over a list
+abbrev over : List ℕ → Request → ListOutcome
+over bytes request = outcome request (record { name = codes "fw.list"; bytes = bytes } ∷ [])
+
+-- nothing is printed but a line
+abbrev only : ListStatus → ListOutcome
+only status = record { status = status; text = [] }
+
+-- ---- refusals
+
+no_list : outcome (asked Iptables (codes "INPUT") answers.Line) [] ≡ only ReadFault
+no_list = refl
+
+no_chain : over list (asked Iptables (codes "FORWARD") answers.Line) ≡ only (Refused (at_line 0 NoChain))
+unfolding list digits with_lines protocol_table target_table
+no_chain = refl
+
+-- packets come to it from other chains alone
+no_policy : over list (asked Iptables (codes "web") answers.Line) ≡ only (Refused (at_line 0 NoPolicy))
+unfolding list digits with_lines protocol_table target_table
+no_policy = refl
+
+-- a line that no rule file says
+a_faulty_line : over (codes "*filter\n:INPUT DROP [0:0]\n\n-A INPUT -m recent --set -j DROP\nCOMMIT\n")
+    (asked Iptables (codes "INPUT") answers.Line) ≡ only (Refused (at_line 4 (Line kind.CantSay)))
+unfolding digits with_lines match_table target_table
+a_faulty_line = refl
+
+-- lines that lead from a chain back to it
+a_loop : over (codes "*filter\n:INPUT DROP [0:0]\n:web - [0:0]\n-A INPUT -j web\n-A web -p tcp -g web\nCOMMIT\n")
+    (asked Iptables (codes "INPUT") answers.Verdict) ≡ only (Refused (at_line 5 Loop))
+unfolding digits with_lines protocol_table target_table
+a_loop = refl
+
+-- ---- lines on standard error
+
+a_message : message (Refused (at_line 5 Loop)) ≡ codes "aclc-lists: list: line 5: loop\n"
+unfolding digits
+a_message = refl
+
+of_words : message (Usage (fault_at 1 UnknownCommand)) ≡ codes "aclc-lists: usage: word 1: unknown command\n"
+unfolding digits
+of_words = refl

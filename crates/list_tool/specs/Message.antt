@@ -1,0 +1,77 @@
+-- The line on standard error that tells how a run ended.
+use Rattle.std.specs.Prelude.{ℕ, List, [], ◌∷◌, ◌++◌, codes, decimal}
+use Rattle.command_ending.specs.Message.{usage_text}
+use Rattle.iptables_reader.specs.declared.fault.LineKind.{LineKind}
+use Rattle.iptables_reader.specs.declared.fault.LineKind.TheVariants as line
+use Rattle.list_tool.specs.declared.status.ListKind.{ListKind}
+use Rattle.list_tool.specs.declared.status.ListKind.TheVariants as kind
+use Rattle.list_tool.specs.declared.status.ListStatus.{ListStatus}
+use Rattle.list_tool.specs.declared.status.ListStatus.TheVariants.{Done, Usage, Refused, ReadFault}
+use Rattle.list_tool.specs.declared.status.ListStatus.TheVariants.{WriteFault, OutOfMemory}
+
+-- what is told of a line of a table
+abbrev pub table_text : LineKind → List ℕ
+table_text line.FileTooLong = codes "file too long"
+table_text line.NoTable = codes "no table"
+table_text line.OtherTable = codes "another table than filter"
+table_text line.SecondTable = codes "a line after the table"
+table_text line.NoCommit = codes "no COMMIT"
+table_text line.BadChain = codes "bad chain"
+table_text line.ChainTwice = codes "chain declared twice"
+table_text line.LateChain = codes "chain declared after rules"
+table_text line.BadPolicy = codes "bad policy"
+table_text line.BadStart = codes "no -A"
+table_text line.NoChain = codes "chain not declared"
+table_text line.MissingWord = codes "missing word"
+table_text line.UnknownOption = codes "unknown option"
+table_text line.OptionTwice = codes "repeated option"
+table_text line.BadNegation = codes "bad negation"
+table_text line.BadMatch = codes "bad match"
+table_text line.BadAddress = codes "bad address"
+table_text line.BadProtocol = codes "bad protocol"
+table_text line.BadPorts = codes "bad ports"
+table_text line.NeedsProtocol = codes "needs a protocol or a target before it"
+table_text line.BadQuotes = codes "bad quotes"
+table_text line.BadTarget = codes "bad target"
+table_text line.BadAnswer = codes "bad answer of REJECT"
+table_text line.BadInterface = codes "bad interface"
+table_text line.BadState = codes "bad state"
+table_text line.NeedsInterface = codes "interface not assumed"
+table_text line.NeedsState = codes "state not assumed"
+table_text line.NeedsLocal = codes "local addresses not assumed"
+table_text line.CantSay = codes "matches what no rule file says"
+
+-- what is told of a list
+abbrev pub list_text : ListKind → List ℕ
+list_text (kind.Line fault) = table_text fault
+list_text kind.NoChain = codes "no such chain"
+list_text kind.NoPolicy = codes "chain without a policy"
+list_text kind.NoTarget = codes "target not there"
+list_text kind.Loop = codes "loop"
+list_text kind.TooManyRules = codes "too many rules"
+list_text kind.TooManySteps = codes "too many ways through the chains"
+list_text kind.NoPrefix = codes "addresses without a prefix"
+list_text kind.TextTooLong = codes "rule file too long"
+
+-- what stands after the program's name: a subject, a number and a kind
+abbrev pub numbered : List ℕ → ℕ → List ℕ → List ℕ
+numbered subject number kind =
+    codes "aclc-lists: " ++ subject ++ decimal number ++ codes ": " ++ kind ++ 10 ∷ []
+
+-- the line of a status, and nothing for `Done`
+abbrev pub message : ListStatus → List ℕ
+message Done = []
+message (Usage fault) = numbered (codes "usage: word ") fault.word (usage_text fault.kind)
+message (Refused fault) = numbered (codes "list: line ") fault.line (list_text fault.kind)
+message ReadFault = codes "aclc-lists: read fault" ++ 10 ∷ []
+message WriteFault = codes "aclc-lists: write fault" ++ 10 ∷ []
+message OutOfMemory = codes "aclc-lists: out of memory" ++ 10 ∷ []
+
+-- the exit code of a status
+abbrev pub code_of : ListStatus → ℕ
+code_of Done = 0
+code_of (Usage fault) = 2
+code_of (Refused fault) = 3
+code_of ReadFault = 7
+code_of WriteFault = 8
+code_of OutOfMemory = 9

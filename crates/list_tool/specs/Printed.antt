@@ -1,0 +1,105 @@
+-- The text of a rule file that is made of a list: its rules, and above each the text of the line that
+-- it was made of, where that isn't the line of the rule before it.
+use Rattle.std.specs.Prelude.{◌≡◌, ℕ, ◌+◌, ◌-◌, ◌==◌, List, [], ◌∷◌, ◌++◌, length, nat_lt, slice_get}
+use Rattle.std.specs.Prelude.{if◌then◌else◌, Option, Some, None, Result, Ok, Err}
+use Rattle.field_defs.specs.declared.field.Family.{Family}
+use Rattle.rule_set.specs.Rule.{RuleView}
+use Rattle.text_scan.specs.Parts.{lines_of}
+use Rattle.classbench_reader.specs.Limits.{max_rule_file}
+use Rattle.classbench_reader.specs.Print.{has_prefixes}
+use Rattle.printed_lists.specs.Listed.{LineView, Comment, Rule, list_text}
+use Rattle.iptables_reader.specs.declared.table.Answers.{Answers}
+use Rattle.iptables_reader.specs.declared.table.Answers.TheVariants as answers
+use Rattle.iptables_reader.specs.declared.table.Asked.{Asked}
+use Rattle.list_tool.specs.declared.status.ListFault.{ListFault}
+use Rattle.list_tool.specs.declared.status.ListKind.TheVariants.{NoPrefix, TextTooLong}
+use Rattle.list_tool.specs.declared.status.Refusal.{Refusal}
+use Rattle.list_tool.specs.declared.status.Refusal.TheVariants as refusal
+use Rattle.list_tool.specs.Listing.{◌>>=◌, at_line, family_of, rules_in}
+use Rattle.list_tool.specs.Words.{Request}
+
+-- what is said is a fault of the list, or there is no memory
+abbrev pub Refuses : {A : Type 0} → Result A ListFault → Refusal → Type 0
+Refuses said (refusal.Fault fault) = said ≡ Err fault
+Refuses said refusal.OutOfMemory = Unit {0}
+
+-- ---- lines
+
+-- the userdata of a rule, which is the line that it was made of
+abbrev pub number_of : Option RuleView → ℕ
+number_of None = 0
+number_of (Some rule) = rule.tag.userdata
+
+-- the line of the rule at a place, by the same rules with lines as their userdata
+abbrev pub number_at : List RuleView → ℕ → ℕ
+number_at by_line place = number_of (slice_get by_line place)
+
+-- and that of the rule before it: no line stands before the first
+abbrev pub number_before : List RuleView → ℕ → ℕ
+number_before by_line place = if place == 0 then 0 else number_at by_line (place - 1)
+
+-- the text of a line
+abbrev pub text_or_none : Option (List ℕ) → List ℕ
+text_or_none None = []
+text_or_none (Some text) = text
+
+-- the text of the line of a number, from 1
+abbrev pub line_text : List (List ℕ) → ℕ → List ℕ
+line_text lines number = if number == 0 then [] else text_or_none (slice_get lines (number - 1))
+
+-- the text of a rule's line, where that is another than the line before
+abbrev pub comment_of : List (List ℕ) → ℕ → ℕ → Option (List ℕ)
+comment_of lines before number = if number == before then None else Some (line_text lines number)
+
+-- a rule after its comment, if it has one
+abbrev pub after_comment : Option (List ℕ) → RuleView → List LineView
+after_comment None rule = Rule rule ∷ []
+after_comment (Some text) rule = Comment text ∷ Rule rule ∷ []
+
+-- so each rule from a place on
+abbrev pub commented : List (List ℕ) → List RuleView → ℕ → List RuleView → List LineView
+commented lines by_line place [] = []
+commented lines by_line place (rule ∷ rules) =
+    after_comment (comment_of lines (number_before by_line place) (number_at by_line place)) rule
+    ++ commented lines by_line (place + 1) rules
+
+-- ---- the whole text
+
+-- the first rule from a place on whose addresses no prefix says, by its line
+abbrev pub first_odd : Family → List RuleView → ℕ → List RuleView → Option ℕ
+first_odd its by_line place [] = None
+first_odd its by_line place (rule ∷ rules) =
+    if has_prefixes its rule.fields then first_odd its by_line (place + 1) rules
+    else Some (number_at by_line place)
+
+-- such a rule is a fault
+abbrev pub unless_odd : {A : Type 0} → Option ℕ → A → Result A ListFault
+unless_odd None value = Ok value
+unless_odd (Some line) value = Err (at_line line NoPrefix)
+
+-- a rule file has so many bytes at most
+abbrev pub within_limit : List ℕ → Result (List ℕ) ListFault
+within_limit text =
+    if nat_lt max_rule_file (length text) then Err (at_line 0 TextTooLong) else Ok text
+
+-- the text of some rules, by the lines of the list and the lines of the rules
+abbrev pub text_of_rules : Family → List ℕ → List RuleView → List RuleView → Result (List ℕ) ListFault
+text_of_rules its bytes by_line rules =
+    unless_odd (first_odd its by_line 0 rules) rules >>= λ kept.
+    within_limit (list_text its (commented (lines_of bytes) by_line 0 kept))
+
+-- what the reader of a form is asked for
+abbrev pub asked_for : Request → Answers → Asked
+asked_for request its = record { family = family_of request.form; answers = its }
+
+-- the rules that a request asks for, with such answers
+abbrev pub rules_for : Request → List ℕ → Answers → Result (List RuleView) ListFault
+rules_for request bytes its =
+    rules_in (asked_for request its) request.options.assumed request.chain bytes
+
+-- the text of the rule file that is asked for, by the bytes of the list
+abbrev pub text_of : Request → List ℕ → Result (List ℕ) ListFault
+text_of request bytes =
+    rules_for request bytes answers.Line >>= λ by_line.
+    rules_for request bytes request.options.answers >>= λ rules.
+    text_of_rules (family_of request.form) bytes by_line rules

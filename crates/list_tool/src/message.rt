@@ -1,0 +1,116 @@
+//! The line on standard error that tells how a run ended.
+
+ghost use Rattle.std.specs.Prelude.{◌≡◌, ◌≤◌, length, take};
+ghost use Rattle.acl_report.specs.declared.line.TheConstants.{LINE_ROOM};
+ghost use Rattle.command_ending.specs.Message.{usage_text};
+ghost use Rattle.list_tool.specs.Message.{list_text, message, numbered, table_text};
+
+use crate::status::{ListKind, ListStatus};
+use acl_report::{LINE_ROOM, append, append_number};
+use command_words::UsageKind;
+use iptables_reader::LineKind;
+
+/// Writes the line of a status to the front of `into`, and gives its length with the LF that ends
+/// it. `Done` has no line.
+///
+/// It takes no memory.
+pub fn message_line(status: &ListStatus, into: &mut [u8; LINE_ROOM]) -> usize
+    ensures within { result ≤ LINE_ROOM }
+    ensures line { take result into.new ≡ message status.now }
+{
+    match status {
+        ListStatus::Done => 0,
+        ListStatus::Usage(fault) => {
+            numbered_line(b"usage: word ", fault.word, usage_kind(fault.kind), into)
+        }
+        ListStatus::Refused(fault) => {
+            numbered_line(b"list: line ", fault.line, list_kind(fault.kind), into)
+        }
+        ListStatus::ReadFault => append(into, 0, b"aclc-lists: read fault\n"),
+        ListStatus::WriteFault => append(into, 0, b"aclc-lists: write fault\n"),
+        ListStatus::OutOfMemory => append(into, 0, b"aclc-lists: out of memory\n"),
+    }
+}
+
+/// A line that names a number and what is wrong there.
+fn numbered_line(subject: &[u8], number: u32, kind: &[u8], into: &mut [u8; LINE_ROOM]) -> usize
+    requires subject { length subject.now ≤ 40 }
+    requires kind { length kind.now ≤ 40 }
+    ensures within { result ≤ LINE_ROOM }
+    ensures line { take result into.new ≡ numbered subject.now number kind.now }
+{
+    let at = append(into, 0, b"aclc-lists: ");
+    let at = append(into, at, subject);
+    let at = append_number(into, at, u64::from(number));
+    let at = append(into, at, b": ");
+    let at = append(into, at, kind);
+    append(into, at, b"\n")
+}
+
+fn usage_kind(kind: UsageKind) -> &'static [u8]
+    ensures text { result.now ≡ usage_text kind }
+    ensures short { length result.now ≤ 40 }
+{
+    match kind {
+        UsageKind::MissingCommand => b"missing command",
+        UsageKind::UnknownCommand => b"unknown command",
+        UsageKind::MissingName => b"missing name",
+        UsageKind::UnknownOption => b"unknown option",
+        UsageKind::RepeatedOption => b"repeated option",
+        UsageKind::BadValue => b"bad value",
+    }
+}
+
+fn list_kind(kind: ListKind) -> &'static [u8]
+    ensures text { result.now ≡ list_text kind }
+    ensures short { length result.now ≤ 40 }
+{
+    match kind {
+        ListKind::Line(fault) => table_kind(fault),
+        ListKind::NoChain => b"no such chain",
+        ListKind::NoPolicy => b"chain without a policy",
+        ListKind::NoTarget => b"target not there",
+        ListKind::Loop => b"loop",
+        ListKind::TooManyRules => b"too many rules",
+        ListKind::TooManySteps => b"too many ways through the chains",
+        ListKind::NoPrefix => b"addresses without a prefix",
+        ListKind::TextTooLong => b"rule file too long",
+    }
+}
+
+fn table_kind(fault: LineKind) -> &'static [u8]
+    ensures text { result.now ≡ table_text fault }
+    ensures short { length result.now ≤ 40 }
+{
+    match fault {
+        LineKind::FileTooLong => b"file too long",
+        LineKind::NoTable => b"no table",
+        LineKind::OtherTable => b"another table than filter",
+        LineKind::SecondTable => b"a line after the table",
+        LineKind::NoCommit => b"no COMMIT",
+        LineKind::BadChain => b"bad chain",
+        LineKind::ChainTwice => b"chain declared twice",
+        LineKind::LateChain => b"chain declared after rules",
+        LineKind::BadPolicy => b"bad policy",
+        LineKind::BadStart => b"no -A",
+        LineKind::NoChain => b"chain not declared",
+        LineKind::MissingWord => b"missing word",
+        LineKind::UnknownOption => b"unknown option",
+        LineKind::OptionTwice => b"repeated option",
+        LineKind::BadNegation => b"bad negation",
+        LineKind::BadMatch => b"bad match",
+        LineKind::BadAddress => b"bad address",
+        LineKind::BadProtocol => b"bad protocol",
+        LineKind::BadPorts => b"bad ports",
+        LineKind::NeedsProtocol => b"needs a protocol or a target before it",
+        LineKind::BadQuotes => b"bad quotes",
+        LineKind::BadTarget => b"bad target",
+        LineKind::BadAnswer => b"bad answer of REJECT",
+        LineKind::BadInterface => b"bad interface",
+        LineKind::BadState => b"bad state",
+        LineKind::NeedsInterface => b"interface not assumed",
+        LineKind::NeedsState => b"state not assumed",
+        LineKind::NeedsLocal => b"local addresses not assumed",
+        LineKind::CantSay => b"matches what no rule file says",
+    }
+}
