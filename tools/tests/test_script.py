@@ -29,6 +29,11 @@ ci) [ -z "$BROKEN" ] || exit 1
         [ "$(ls crates)" = low ] && mkdir -p crates/low/out/rlib/low.rlib
         exit
     fi
+    if [ "$(cat crates.txt)" = $'low: std\\naclc_lists: low' ]; then
+        printf '== aclc_lists\\nlogic=proved functions=3\\nrt: aclc_lists proved\\n'
+        [ "$(ls crates | tr '\\n' ' ')" = 'aclc_lists low ' ] && mkdir -p crates/aclc_lists/out && echo lists > crates/aclc_lists/out/aclc_lists
+        exit
+    fi
     [ "$(ls crates | tr '\\n' ' ')" = 'aclc low ' ] || exit 1
     [ "$(cat crates.txt)" = $'low: std\\naclc: low' ] || exit 1
     echo 'rt: low is kept: an earlier run proved it'; printf '== aclc\\nlogic=proved functions=1\\nrt: aclc proved\\n'
@@ -58,9 +63,9 @@ class Script(unittest.TestCase):
             target = self.folder / name
             target.parent.mkdir(parents=True, exist_ok=True)
             (shutil.copytree if (TOP / name).is_dir() else shutil.copy)(TOP / name, target)
-        crates = "# a band: of two\nlow: std\naclc: low\nother: low\nacl_c staticlib: core low\n"
+        crates = "# a band: of two\nlow: std\naclc: low\naclc_lists: low\nother: low\nacl_c staticlib: core low\n"
         (self.folder / "crates.txt").write_text(crates)
-        for crate in ("low", "aclc", "other", "acl_c"):
+        for crate in ("low", "aclc", "aclc_lists", "other", "acl_c"):
             (self.folder / "crates" / crate / "src").mkdir(parents=True)
             (self.folder / "crates" / crate / "src" / "lib.rt").write_text("fn one()\n")
         for crate in ("low", "acl_c"):
@@ -114,7 +119,7 @@ class Script(unittest.TestCase):
         self.assertEqual(self.run_script("bench", "42", "42", "42")[1], "bench 42 42 42\n")
 
     def test_words_too_many_are_refused(self):
-        for words in (("prove", "x"), ("prove", "x", "y"), ("prove-library", "x"), ("install", "a", "b")):
+        for words in (("prove", "x"), ("prove", "x", "y"), ("prove-library", "x"), ("prove-lists", "x"), ("install", "a", "b")):
             self.assertEqual(self.run_script(*words)[0], 101)
         self.assertEqual(self.calls_of_rt(), 0)
 
@@ -147,6 +152,16 @@ class Script(unittest.TestCase):
         self.assertEqual(noted[2], "logic=proved functions=2 target=x86_64")
         calls = self.calls_of_rt()
         self.assertIn("proved and built", self.run_script("prove-library")[2])
+        self.assertEqual(self.calls_of_rt(), calls)
+        self.assertIn("unproved", self.run_script("session", "x")[2])
+
+    def test_the_program_of_lists_is_proved_once_over_the_crates_below_it(self):
+        made = self.folder / "crates" / "aclc_lists" / "out" / "aclc_lists"
+        code, _, said = self.run_script("prove-lists")
+        self.assertEqual((code, made.read_text()), (0, "lists\n"), said)
+        self.assertEqual((made.parent / "built_from").read_text().split("\n")[2], "logic=proved functions=3")
+        calls = self.calls_of_rt()
+        self.assertIn("program aclc-lists is proved and built", self.run_script("prove-lists")[2])
         self.assertEqual(self.calls_of_rt(), calls)
         self.assertIn("unproved", self.run_script("session", "x")[2])
 
@@ -206,6 +221,13 @@ class Script(unittest.TestCase):
         note = (target / "share" / "doc" / "aclc" / "proof").read_text()
         self.assertIn("logic=proved", note)
         self.assertIn("bin/aclc", note)
+        self.assertFalse((target / "bin" / "aclc-lists").exists())
+        self.run_script("prove-lists")
+        self.assertEqual(self.run_script("install", str(target))[0], 0)
+        self.assertEqual((target / "bin" / "aclc-lists").read_text(), "lists\n")
+        note = (target / "share" / "doc" / "aclc" / "proof").read_text()
+        self.assertIn("logic=proved functions=3", note)
+        self.assertIn("bin/aclc-lists", note)
 
     def test_the_version_is_told_before_and_after_the_proof(self):
         version, date = (TOP / "VERSION").read_text().split()
