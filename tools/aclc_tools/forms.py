@@ -22,7 +22,7 @@ FORMS = {
     "l3fwd": Form(l3fwd, end=None),
 }
 MOST_DATA = 0xFFFFFFFF
-Converted = namedtuple("Converted", "lines left_out notes flattener")
+Converted = namedtuple("Converted", "lines left_out notes flattener families")
 
 
 def data_of(text):
@@ -94,7 +94,7 @@ def converted(options, text):
     flattener.list_of(read.chain, read.families)
     lines = list(flatten.write(flattener, head_of(options, form, read.chain), form.what, options.data))
     return Converted(lines, [rule for _, rule in sorted(flattener.left_out.items())], notes + list(flattener.notes()),
-                     flattener)
+                     flattener, read.families)
 
 
 def rule_file_of(options, text):

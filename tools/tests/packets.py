@@ -6,6 +6,8 @@ import struct
 from aclc_tools.traces import checksum
 
 PROTOCOLS = (6, 6, 6, 17, 17, 17, 132, 1, 58, 47, 50, 2)
+# Headers of IPv6 that stand before the protocol, so that no packet ends in one.
+EXTENSIONS = (0, 43, 44, 60)
 PAYLOAD, MARK = 48, 20
 
 
@@ -29,7 +31,8 @@ def fields(rules, draw):
     bits = one.bits
     ports = [ends(*pair, 65535, draw) for pair in (other.source_ports, one.destination_ports)]
     value, mask = draw.choice([one.protocol, (draw.choice(PROTOCOLS), 255)])
-    protocol = draw.choice([it for it in PROTOCOLS if it & mask == value & mask] or [value])
+    matching = [it for it in range(256) if it & mask == value & mask and it not in EXTENSIONS]
+    protocol = draw.choice([it for it in PROTOCOLS if it in matching] or matching[:1] or PROTOCOLS)
     return one.family, address(one.source, bits, draw), address(other.destination, bits, draw), ports, protocol
 
 

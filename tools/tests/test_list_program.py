@@ -1,0 +1,148 @@
+# SPDX-License-Identifier: BSD-3-Clause
+"""The program aclc-lists beside tools/convert and the lists' own judge, and tools/convert where it asks the program."""
+import random
+import subprocess
+import tempfile
+import unittest
+from pathlib import Path
+
+import damages
+import draws_iptables
+import list_programs
+from aclc_tools import list_program
+from converting import DATA, decided, rules_of
+from tool import tool
+
+DRAWN, DAMAGED, SEED = 200, 200, 53
+# The shipped lists, and the rules that they become.
+SHIPPED = zip(draws_iptables.SHIPPED, ("gateway.rules", "gateway6.rules", "server.rules"))
+LIST = ("*nat\n:PREROUTING ACCEPT [0:0]\nCOMMIT\n*filter\n:INPUT DROP [0:0]\n-A INPUT -s 10.0.0.1/32 -j ACCEPT\nCOMMIT\n"
+        "# Completed\n")
+# What stands in for the program: it notes its words and the list, and prints a rule file or a message.
+STAND_IN = """#!/bin/sh
+printf '%s\\n' "$@" > {0}/words
+cat > {0}/list
+printf '%b' '{1}'
+printf '%b' '{2}' >&2
+exit {3}
+"""
+RULES = "# :INPUT DROP [0:0]\\n@0.0.0.0/0 0.0.0.0/0 0 : 65535 0 : 65535 0/0 data=5\\n"
+BUILT = unittest.skipUnless(list_program.built_list_program(), "the program aclc-lists isn't built")
+
+
+GATEWAY = str(DATA / "gateway.iptables-save")
+# Words, and how the program ends with them, and what it says.
+ENDS = (
+    ([], 2, "usage: word 1: missing command"), (["cisco", GATEWAY, "x"], 2, "usage: word 1: unknown command"),
+    (["iptables"], 2, "usage: word 2: missing name"), (["iptables", GATEWAY], 2, "usage: word 3: missing name"),
+    (["iptables", GATEWAY, "FORWARD", "lenient"], 2, "usage: word 4: unknown option"),
+    (["iptables", GATEWAY, "FORWARD", "data=line", "data=7"], 2, "usage: word 5: repeated option"),
+    (["iptables", GATEWAY, "FORWARD", "assume=in=eth0,in=eth1"], 2, "usage: word 4: bad value"),
+    (["iptables", "/nosuch", "INPUT"], 7, "read fault"), (["iptables", str(DATA), "INPUT"], 7, "read fault"),
+    (["iptables", GATEWAY, "NONE"], 3, "list: line 0: no such chain"),
+    (["iptables", GATEWAY, "trusted"], 3, "list: line 0: chain without a policy"),
+    (["ip6tables", GATEWAY, "FORWARD"], 3, "list: line 9: bad address"),
+    (["iptables", str(DATA / "server.iptables-save"), "INPUT", "assume=in=eth0"], 3, "list: line 9: state not assumed"),
+)
+
+
+class ListProgram(unittest.TestCase):
+    @BUILT
+    def test_the_program_ends_as_its_words_and_files_say(self):
+        for words, code, said in ENDS:
+            done = subprocess.run([list_program.built_list_program(), *words], stdout=subprocess.PIPE,
+                                  stderr=subprocess.PIPE)
+            self.assertEqual((done.returncode, done.stdout, done.stderr.decode()), (code, b"", f"aclc-lists: {said}\n"))
+
+    @BUILT
+    def test_what_cannot_be_written_is_a_write_fault(self):
+        with open("/dev/full", "wb") as full:
+            done = subprocess.run([list_program.built_list_program(), "iptables", GATEWAY, "FORWARD"], stdout=full,
+                                  stderr=subprocess.PIPE)
+        self.assertEqual((done.returncode, done.stderr), (8, b"aclc-lists: write fault\n"))
+
+    @BUILT
+    def test_shipped_lists_decide_as_the_expected_files(self):
+        draw = random.Random(SEED)
+        for (file, family, chain, assumed), expected in SHIPPED:
+            with self.subTest(file=file):
+                lines = (DATA / file).read_text().rstrip("\n").split("\n")
+                drawn = draws_iptables.made(lines, family, chain, assumed)
+                self.assertEqual(list_programs.judged(drawn, drawn.join(lines), draw), "same")
+                made = rules_of(list_programs.by_program(drawn.options, drawn.join(lines)))
+                wanted = rules_of((DATA / expected).read_text())
+                for fields in damages.fields_near(wanted, 400, draw):
+                    self.assertEqual(decided(made, fields), decided(wanted, fields), fields)
+
+    @BUILT
+    def test_drawn_lists_are_taken_and_decide_as_they_say(self):
+        counts, faults = list_programs.outcomes(DRAWN, SEED, False)
+        self.assertEqual(faults, [])
+        self.assertEqual(counts, {"same": DRAWN})
+
+    @BUILT
+    def test_damaged_lists_decide_as_they_say_or_are_refused(self):
+        counts, faults = list_programs.outcomes(DAMAGED, SEED, True)
+        self.assertEqual(faults, [])
+        self.assertGreater(counts["same"], DAMAGED // 10)
+        self.assertGreater(counts["both refuse"], DAMAGED // 10)
+
+
+class Asking(unittest.TestCase):
+    """tools/convert over what stands in for the program."""
+
+    def convert(self, printed, said, code, *words):
+        """What tools/convert ends with, prints and says; and the words and the list that the program was given."""
+        with tempfile.TemporaryDirectory() as folder:
+            folder = Path(folder)
+            (folder / "program").write_text(STAND_IN.format(folder, printed, said, code))
+            (folder / "program").chmod(0o755)
+            (folder / "fw").write_text(LIST)
+            done = tool("convert", "iptables", "--family", "4", *words, folder / "fw",
+                        env={"ACLC_LISTS": str(folder / "program")})
+            asked = [(folder / name).read_text() if (folder / name).exists() else None for name in ("words", "list")]
+        return done, asked
+
+    def test_its_rules_are_written_after_a_head(self):
+        (code, printed, said), (words, _) = self.convert(RULES, "", 0, "--data", "verdict", "--assume", "in=eth0")
+        self.assertEqual((code, said), (0, ""))
+        self.assertEqual(printed.split("\n")[:3], [
+            "# Made by aclc-lists iptables of fw, INPUT. Userdata is 1 where a rule accepts, 2 where it drops, "
+            "3 where it rejects.", "# Assumed: in=eth0.", "# :INPUT DROP [0:0]"])
+        self.assertEqual([rule.userdata for rule in rules_of(printed)], [5])
+        self.assertEqual(words, "iptables\n/dev/stdin\nINPUT\ndata=verdict\nassume=in=eth0\n")
+
+    def test_it_is_handed_the_table_filter_in_its_own_lines(self):
+        _, (_, text) = self.convert(RULES, "", 0)
+        self.assertEqual(text, "\n\n\n" + LIST.partition("COMMIT\n")[2])
+
+    def test_what_it_refuses_is_told_and_converted_by_the_tool_itself(self):
+        (code, printed, said), _ = self.convert("", "aclc-lists: list: line 6: bad address\\n", 3)
+        self.assertEqual(code, 0)
+        self.assertIn(":6: aclc-lists refuses the list, so these rules are the tool's own: bad address", said)
+        self.assertIn("# Made by tools/convert iptables of fw, INPUT.", printed)
+
+    def test_any_other_end_of_it_ends_the_tool(self):
+        for printed, said, code in ((RULES, "aclc-lists: write fault\\n", 8), ("", "aclc-lists: out of memory\\n", 9),
+                                    ("", "nonsense\\n", 3), (RULES, "aclc-lists: list: line 1: x\\n", 0)):
+            (ended, printed, told), _ = self.convert(printed, said, code)
+            self.assertNotEqual(ended, 0)
+            self.assertEqual(printed, "")
+            self.assertIn(f"aclc-lists ended with {code}", told)
+
+    def test_it_is_not_asked_for_what_it_does_not_know(self):
+        for words in (["--lenient"], ["--data", "7"], ["--lenient", "--table", "nat", "--chain", "PREROUTING"]):
+            (code, printed, _), (asked, _) = self.convert(RULES, "", 0, *words)
+            self.assertEqual((code, asked), (0, None), words)
+            self.assertIn("# Made by tools/convert iptables", printed)
+
+    def test_a_name_that_is_no_program_is_told(self):
+        for named, code in (("/nosuch", 101), ("", 0)):
+            ended, _, said = tool("convert", "iptables", "--chain", "FORWARD", DATA / "gateway.iptables-save",
+                                  env={"ACLC_LISTS": named})
+            self.assertEqual(ended, code)
+            self.assertEqual("names no program" in said, code == 101)
+
+
+if __name__ == "__main__":
+    unittest.main()
