@@ -9,6 +9,7 @@
 //! | `audits` | least keys, against all keys of few distinct bytes |
 //! | `chains` | chains of a firewall, against packets worked out by hand |
 //! | `comparisons` | where two lists differ, against all keys of few distinct bytes |
+//! | `drawn_chains` | drawn chains as rules, against the chains, asked rule by rule |
 //! | `edges` | what bytes leave of a value, worked out by hand |
 //! | `filled` | tables whose words were worked out by hand |
 //! | `groups` | states whose words were worked out by hand |
@@ -26,6 +27,8 @@ mod audits;
 mod chains;
 #[cfg(test)]
 mod comparisons;
+#[cfg(test)]
+mod drawn_chains;
 #[cfg(test)]
 mod edges;
 #[cfg(test)]
