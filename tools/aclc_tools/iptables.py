@@ -89,9 +89,11 @@ class Tables:
 
 def checked(rule, chains, lenient):
     """A rule whose target can be reached; where it can't, that is a reason."""
-    if rule.verdict not in (JUMP, GO) or rule.target in chains and chains[rule.target].policy == "-":
+    known = chains.get(rule.target)
+    if rule.verdict not in (JUMP, GO) or known and known.policy == "-" and known.number < rule.number:
         return rule
-    reason = (f"no rule leads to {rule.target}, which packets come to by themselves" if rule.target in chains
+    reason = (f"the chain {rule.target} isn't declared before it" if known and known.policy == "-"
+              else f"no rule leads to {rule.target}, which packets come to by themselves" if known
               else f"the target {rule.target} is none that a rule of aclc has"
               if rule.target in iptables_options.TARGETS
               else f"the target {rule.target} isn't known, and no chain has that name")

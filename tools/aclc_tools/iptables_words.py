@@ -3,12 +3,15 @@
 
 An option is known once its match or target is named; of two that have one of the same name the later is meant.
 """
+import re
 from collections import namedtuple
 
 from aclc_tools import iptables_options as known
 from aclc_tools import names
 from aclc_tools.lists import Malformed
 
+# The seconds of the units of rates; each may be cut short.
+UNITS = {"second": 1, "minute": 60, "hour": 3600, "day": 86400}
 # An option with its arguments; `of` numbers the match that has it, which is named by `match`.
 Option = namedtuple("Option", "name arguments negated of match")
 
@@ -86,6 +89,8 @@ class Line:
         self.at += count
         if len(arguments) < count:
             raise Malformed(f"{name} needs {count} more word{'s'[:count > 1]}, and the line ends")
+        if match == "limit" and name == "--limit" and not is_rate(arguments[0]):
+            raise Malformed(f"{arguments[0]} is no rate")
         if negated and (name in known.NEVER_NEGATED or of < 0):
             raise Malformed(f"{name} can't be negated")
         if (of, name) in self.seen and name != "-m":
@@ -130,6 +135,13 @@ class Line:
                 raise Malformed(f"the match {name} needs its protocol before it, by -p")
             if name == "multiport" and self.protocol not in (6, 17, 33, 132, 136):
                 raise Malformed("the match multiport needs a protocol with ports, by -p")
+
+
+def is_rate(text):
+    """Whether a text is a rate of the match limit: at most 10,000 a second."""
+    found = re.fullmatch(r"([0-9]+)/([a-z]+)", text)
+    seconds = next((UNITS[it] for it in UNITS if found and it.startswith(found.group(2))), 0)
+    return seconds > 0 and 0 < int(found.group(1)) <= 10000 * seconds
 
 
 def protocol(text):

@@ -57,7 +57,8 @@ RULES_REFUSED = [
     ("-m iprange --src-range 10.0.0.9-10.0.0.1 -j DROP", "no address lies"),
     ("-m conntrack --ctstate DNAT -j DROP", "addresses are changed"),
     ("-m conntrack --ctstate NEWW -j DROP", "no state"), ("-s 2001:db8::1 -j DROP", "no address of IPv4"),
-    ("-m limit --limti 3/s -j LOG", "--limti"),
+    ("-m limit --limti 3/s -j LOG", "--limti"), ("-m limit --limit 5/ -j LOG", "no rate"),
+    ("-m limit --limit 0/min -j LOG", "no rate"), ("-m limit --limit 10001/s -j LOG", "no rate"),
 ]
 # Whole lists that are refused, with the line that is told.
 LISTS_REFUSED = [
@@ -79,6 +80,7 @@ LISTS_REFUSED = [
     ("*filter\n:INPUT ACCEPT [0:0]\n*nat\nCOMMIT\n", 3, "begins with -A"),
     ("*filter\n:INPUT ACCEPT [0:0]\n:a - [0:0]\n:b - [0:0]\n-A INPUT -j a\n-A a -j b\n-A b -j a\nCOMMIT\n", 7,
      "leads back to chain a"),
+    ("*filter\n:INPUT ACCEPT [0:0]\n-A INPUT -j a\n:a - [0:0]\nCOMMIT\n", 3, "the chain a isn't declared before it"),
     ("*filter\n:INPUT ACCEPT [0:0]\n:a - [0:0]\n-A a -j DORP\n-A INPUT -j ACCEPT\nCOMMIT\n", 4, "the target DORP"),
 ]
 # Options of a rule that drops packets, those that it matches and those that it doesn't: source, ports and protocol.
