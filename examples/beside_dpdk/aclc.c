@@ -1,7 +1,7 @@
 /* SPDX-License-Identifier: BSD-3-Clause */
-// Walks keys by the C library of this repository: aclc RULES KEYS BUDGET, and then questions as rte.c
+// Walks keys by the C library of this repository: aclc FAMILY RULES KEYS BUDGET, and then questions as rte.c
 //
-// RULES is as for rte.c. KEYS has 13 bytes for each key: protocol, source, destination and ports in network order. BUDGET is
+// FAMILY and RULES are as for rte.c. KEYS has for each key protocol, source, destination and ports in network order. BUDGET is
 // how many words the table may have. It prints the microseconds that the build took. A question has three numbers: the walk of
 // aclc.h, how many keys are walked at a time, and how many rounds over all keys. The answer is as that of rte.c.
 #include <stdint.h>
@@ -11,13 +11,19 @@
 
 #include <aclc.h>
 
-enum { NUMBERS = 11, KEY = 13, FIELDS = 5, PARTS = 32 };
+enum { MOST_FIELDS = 11, PARTS = 32 };
 
-static const struct aclc_field fields[FIELDS] = {{ACLC_FIELD_BITMASK, 1, 0, 0, 0},
-                                                 {ACLC_FIELD_MASK, 4, 1, 1, 1},
-                                                 {ACLC_FIELD_MASK, 4, 2, 2, 5},
-                                                 {ACLC_FIELD_RANGE, 2, 3, 3, 9},
-                                                 {ACLC_FIELD_RANGE, 2, 4, 3, 11}};
+// How many fields a key has, of which so many are four bytes of an address, and its bytes.
+static uint32_t parts = 2, fields = 5;
+static size_t key_size = 13;
+
+static void define(struct aclc_field *defs) {
+    defs[0] = (struct aclc_field){ACLC_FIELD_BITMASK, 1, 0, 0, 0};
+    for (uint32_t at = 1; at <= parts; at++) defs[at] = (struct aclc_field){ACLC_FIELD_MASK, 4, at, at, 4 * at - 3};
+    for (uint32_t port = 0; port < 2; port++)
+        defs[1 + parts + port] =
+            (struct aclc_field){ACLC_FIELD_RANGE, 2, 1 + parts + port, 1 + parts, 4 * parts + 1 + 2 * port};
+}
 
 static void *content(const char *name, size_t *size) {
     FILE *file = fopen(name, "rb");
@@ -38,16 +44,18 @@ static double seconds(void) {
 
 static void fill(struct aclc_context *context, const uint32_t *numbers, size_t count, uint64_t budget) {
     struct aclc_rule *rules = malloc((count + 1) * sizeof *rules);
-    struct aclc_value *values = malloc((count + 1) * FIELDS * sizeof *values);
+    struct aclc_value *values = malloc((count + 1) * fields * sizeof *values);
+    struct aclc_field defs[MOST_FIELDS];
     uint32_t place, field;
     uint64_t words;
-    for (size_t at = 0; at < count; at++, numbers += NUMBERS) {
-        rules[at] = (struct aclc_rule){1, ACLC_MAX_PRIORITY - (int32_t)at, numbers[10]};
-        for (int value = 0; value < FIELDS; value++)
-            values[FIELDS * at + value] = (struct aclc_value){numbers[2 * value], numbers[2 * value + 1]};
+    for (size_t at = 0; at < count; at++, numbers += 2 * fields + 1) {
+        rules[at] = (struct aclc_rule){1, ACLC_MAX_PRIORITY - (int32_t)at, numbers[2 * fields]};
+        for (uint32_t value = 0; value < fields; value++)
+            values[fields * at + value] = (struct aclc_value){numbers[2 * value], numbers[2 * value + 1]};
     }
-    if (aclc_create(context, fields, FIELDS, ACLC_MAX_RULES, &place)) exit(2);
-    if (aclc_add_rules(context, rules, count, values, FIELDS * count, &place, &field)) exit(3);
+    define(defs);
+    if (aclc_create(context, defs, fields, ACLC_MAX_RULES, &place)) exit(2);
+    if (aclc_add_rules(context, rules, count, values, fields * count, &place, &field)) exit(3);
     double begun = seconds();
     if (aclc_build(context, budget, &words)) exit(4);
     printf("build %.0f\n", (seconds() - begun) * 1e6);
@@ -62,7 +70,7 @@ static double seconds_of(struct aclc_context *context, const uint8_t *bytes, siz
     double begun = seconds();
     for (size_t at = from; at < to; at += at_a_time) {
         size_t some = to - at < at_a_time ? to - at : at_a_time;
-        if (aclc_classify(context, bytes + KEY * at, KEY * some, 1, walk, answers + at, some, &transitions)) exit(5);
+        if (aclc_classify(context, bytes + key_size * at, key_size * some, 1, walk, answers + at, some, &transitions)) exit(5);
     }
     return seconds() - begun;
 }
@@ -82,12 +90,13 @@ static double least_of(struct aclc_context *context, const uint8_t *bytes, size_
 
 int main(int count, char **words) {
     size_t size, keys;
-    if (count != 4) return 2;
-    uint32_t *numbers = content(words[1], &size);
-    uint8_t *bytes = content(words[2], &keys);
+    if (count != 5) return 2;
+    if (words[1][0] == '6') parts = 8, fields = 11, key_size = 37;
+    uint32_t *numbers = content(words[2], &size);
+    uint8_t *bytes = content(words[3], &keys);
     struct aclc_context context = {0};
-    fill(&context, numbers, size / (4 * NUMBERS), strtoull(words[3], NULL, 10));
-    keys /= KEY;
+    fill(&context, numbers, size / (4 * (2 * fields + 1)), strtoull(words[4], NULL, 10));
+    keys /= key_size;
     uint32_t *answers = malloc(keys * sizeof *answers + 1);
     unsigned walk;
     int rounds;

@@ -1,14 +1,14 @@
 /* SPDX-License-Identifier: BSD-3-Clause */
-// Walks keys by DPDK's librte_acl: rte RULES KEYS [WORDS ..], and then a question on each line of standard input
+// Walks keys by DPDK's librte_acl: rte FAMILY RULES KEYS [WORDS ..], and then a question on each line of standard input
 //
-// RULES has for each rule eleven numbers of 4 bytes, low byte first: protocol and mask, source and prefix length, destination
-// and prefix length, the ends of both ranges of ports, and the userdata. The first rule has the greatest priority. KEYS has 16
-// bytes for each key: protocol, source, destination and ports in network order, and three bytes that aren't read. The other words
-// go to DPDK. It prints the library's account of the context, which tells the algorithm that it chose, and the microseconds that
-// the build took. A question has three numbers: the algorithm of rte_acl.h (1 scalar, 2 SSE, 3 AVX2, 6 and 7 AVX512, 0 the one that
-// was chosen), how many keys are walked at a time, and how many rounds over all keys. The answer is the nanoseconds of a
-// key, of the least times of 32 parts of the keys, or "none" where this processor doesn't have the algorithm. With no rounds it is the userdata of each key, a
-// line for each.
+// FAMILY is 4 or 6. RULES has for each rule numbers of 4 bytes, low byte first: protocol and mask, each four bytes of the
+// source and how many of their bits count, those of the destination, the ends of both ranges of ports, and the userdata. The
+// first rule has the greatest priority. KEYS has for each key protocol, source, destination and ports in network order, and
+// three bytes that aren't read: 16 or 40 bytes. The other words go to DPDK. It prints the library's account of the context,
+// which tells the algorithm that it chose, and the microseconds that the build took. A question has three numbers: the
+// algorithm of rte_acl.h (1 scalar, 2 SSE, 3 AVX2, 6 and 7 AVX512, 0 the one that was chosen), how many keys are walked at a
+// time, and how many rounds over all keys. The answer is the nanoseconds of a key, of the least times of 32 parts of the keys,
+// or "none" where this processor doesn't have the algorithm. With no rounds it is the userdata of each key, a line for each.
 #include <stdint.h>
 #include <stdio.h>
 #include <stdlib.h>
@@ -17,13 +17,22 @@
 #include <rte_acl.h>
 #include <rte_eal.h>
 
-enum { NUMBERS = 11, KEY = 16, MOST_RULES = 262144, MOST_WORDS = 16, PARTS = 32 };
+enum { MOST_FIELDS = 11, MOST_RULES = 262144, MOST_WORDS = 16, PARTS = 32 };
+RTE_ACL_RULE_DEF(acl_rule, MOST_FIELDS);
 
-// The fields of an IPv4 key. A group of four bytes is read at a time; the two ports are one.
-static const struct rte_acl_field_def fields[5] = {
-    {RTE_ACL_FIELD_TYPE_BITMASK, 1, 0, 0, 0}, {RTE_ACL_FIELD_TYPE_MASK, 4, 1, 1, 1}, {RTE_ACL_FIELD_TYPE_MASK, 4, 2, 2, 5},
-    {RTE_ACL_FIELD_TYPE_RANGE, 2, 3, 3, 9},   {RTE_ACL_FIELD_TYPE_RANGE, 2, 4, 3, 11}};
-RTE_ACL_RULE_DEF(rule5, 5);
+// How many fields a key has, of which so many are four bytes of an address, and its bytes with those that aren't read.
+static int parts = 2, fields = 5;
+static size_t key_size = 16;
+
+// The fields of a key. A group of four bytes is read at a time; the two ports are one.
+static void define(struct rte_acl_field_def *defs) {
+    defs[0] = (struct rte_acl_field_def){RTE_ACL_FIELD_TYPE_BITMASK, 1, 0, 0, 0};
+    for (int at = 1; at <= parts; at++)
+        defs[at] = (struct rte_acl_field_def){RTE_ACL_FIELD_TYPE_MASK, 4, at, at, 4 * at - 3};
+    for (int port = 0; port < 2; port++)
+        defs[1 + parts + port] =
+            (struct rte_acl_field_def){RTE_ACL_FIELD_TYPE_RANGE, 2, 1 + parts + port, 1 + parts, 4 * parts + 1 + 2 * port};
+}
 
 static void *content(const char *name, size_t *size) {
     FILE *file = fopen(name, "rb");
@@ -43,20 +52,21 @@ static double seconds(void) {
 }
 
 static struct rte_acl_ctx *table(const uint32_t *numbers, size_t rules) {
-    struct rte_acl_param param = {"rules", SOCKET_ID_ANY, RTE_ACL_RULE_SZ(5), MOST_RULES};
-    struct rte_acl_config config = {.num_categories = 1, .num_fields = 5};
+    struct rte_acl_param param = {"rules", SOCKET_ID_ANY, RTE_ACL_RULE_SZ(fields), MOST_RULES};
+    struct rte_acl_config config = {.num_categories = 1, .num_fields = fields};
     struct rte_acl_ctx *ctx = rte_acl_create(&param);
     if (!ctx) exit(2);
-    for (size_t at = 0; at < rules; at++, numbers += NUMBERS) {
-        struct rule5 rule = {{.category_mask = 1, .priority = RTE_ACL_MAX_PRIORITY - (int)at - 1, .userdata = numbers[10]}};
+    for (size_t at = 0; at < rules; at++, numbers += 2 * fields + 1) {
+        struct acl_rule rule = {
+            {.category_mask = 1, .priority = RTE_ACL_MAX_PRIORITY - (int)at - 1, .userdata = numbers[2 * fields]}};
         rule.field[0].value.u8 = numbers[0], rule.field[0].mask_range.u8 = numbers[1];
-        for (int field = 1; field < 3; field++)
+        for (int field = 1; field <= parts; field++)
             rule.field[field].value.u32 = numbers[2 * field], rule.field[field].mask_range.u32 = numbers[2 * field + 1];
-        for (int field = 3; field < 5; field++)
+        for (int field = 1 + parts; field < fields; field++)
             rule.field[field].value.u16 = numbers[2 * field], rule.field[field].mask_range.u16 = numbers[2 * field + 1];
         if (rte_acl_add_rules(ctx, (struct rte_acl_rule *)&rule, 1)) exit(3);
     }
-    for (int field = 0; field < 5; field++) config.defs[field] = fields[field];
+    define(config.defs);
     double begun = seconds();
     if (rte_acl_build(ctx, &config)) exit(4);
     double built = seconds();
@@ -100,16 +110,17 @@ int main(int count, char **words) {
     char *eal[MOST_WORDS] = {"rte", "--no-huge", "--no-pci", "--no-shconf", "--no-telemetry", "-l", "0", "-m", "3072",
                              "--log-level=*:1", "--log-level=lib.acl:8"};
     int given = 11;
-    for (int at = 3; at < count && given < MOST_WORDS; at++) eal[given++] = words[at];
-    if (count < 3 || rte_eal_init(given, eal) < 0) return 2;
+    for (int at = 4; at < count && given < MOST_WORDS; at++) eal[given++] = words[at];
+    if (count < 4 || rte_eal_init(given, eal) < 0) return 2;
+    if (words[1][0] == '6') parts = 8, fields = 11, key_size = 40;
     size_t size, keys;
-    uint32_t *numbers = content(words[1], &size);
-    uint8_t *bytes = content(words[2], &keys);
-    struct rte_acl_ctx *ctx = table(numbers, size / (4 * NUMBERS));
-    keys /= KEY;
+    uint32_t *numbers = content(words[2], &size);
+    uint8_t *bytes = content(words[3], &keys);
+    struct rte_acl_ctx *ctx = table(numbers, size / (4 * (2 * fields + 1)));
+    keys /= key_size;
     uint32_t *answers = malloc(keys * sizeof *answers + 1);
     const uint8_t **places = malloc(keys * sizeof *places + 1);
-    for (size_t at = 0; at < keys; at++) places[at] = bytes + KEY * at;
+    for (size_t at = 0; at < keys; at++) places[at] = bytes + key_size * at;
     int algorithm, rounds;
     size_t at_a_time;
     for (fflush(stdout); scanf("%d %zu %d", &algorithm, &at_a_time, &rounds) == 3; fflush(stdout)) {
