@@ -6,3 +6,4 @@ pub mod RowNumbers
 pub mod Zipped
 pub mod Merging
 pub mod Placing
+pub mod Probing

@@ -78,11 +78,11 @@ module _ (set : RuleSetView) (place : Place) where
   runs_among found states = map (state_runs set place.column place.is_last found) states
 
   -- what the bytes make of a state
-  abbrev led_to : List ℕ → List (List ℕ)
+  abbrev pub led_to : List ℕ → List (List ℕ)
   led_to state = map (successor set place.column place.is_last state) all_bytes
 
   -- more states' finds come after the others'
-  found_both : (states more : List (List ℕ))
+  pub found_both : (states more : List (List ℕ))
       → found_from (states ++ more) ≡ fold lists_with (found_from states) (flat_map led_to more)
   unfolding level_found found_in
   found_both states more =

@@ -22,7 +22,7 @@ use Rattle.group_states.proofs.Offered.{Stands, packed_stands, IsHeld, IsEntryAt
 use Rattle.group_states.proofs.Offered.{packed_entries, entry_can_step, entries_next, zeros_on, zeros_small}
 use Rattle.group_states.proofs.Offered.{number_in-entry_of, packed_at, kept_places_first, packed_start, place_inside}
 use Rattle.group_states.proofs.Offered.{rest_is, level_here, gap_next, group_held}
-use Rattle.group_states.specs.Entry.{ColumnView, CanStep, entry_of, entries_step, number_in, field_at}
+use Rattle.group_states.specs.Entry.{ColumnView, CanStep, column_at, entry_of, entries_step, number_in, field_at}
 use Rattle.group_states.specs.Kept.{is_wild_at, is_wild_place, kept_places}
 use Rattle.group_states.specs.Laws.{IsGrouped}
 use Rattle.group_states.specs.Levels.{states_at, level_runs, words_of, levels_of}
@@ -37,7 +37,7 @@ use Rattle.list_lemmas.proofs.Spans.{length-le-sum_by, list_all_at_member, all_a
 use Rattle.list_lemmas.proofs.Spans.{all_of_mapped, map_as_filter_map}
 use Rattle.trie_merge.proofs.Zipped.{for_grows, state_live}
 use Rattle.trie_merge.specs.Cuts.{CanGoOn}
-use Rattle.trie_merge.specs.Led.{ComesFrom}
+use Rattle.trie_merge.specs.Led.{ComesFrom, IsAfter}
 use Rattle.trie_merge.specs.Gathered.{GathersGroup}
 use Rattle.trie_merge.specs.Merged.{PlaceMerged, numbers_of, runs_in, target_of}
 use Rattle.trie_merge.specs.Names.{ranked_of}
@@ -51,11 +51,11 @@ use Rattle.trie_merge.specs.Words.{states_words, least_cost, least_words}
 use Rattle.trie_merge.specs.declared.merge.Reached.{Reached}
 
 -- the entry of a rule before the first byte
-abbrev start_of : ℕ → ℕ
+abbrev pub start_of : ℕ → ℕ
 start_of rule = entry_of rule Free
 
 -- what is numbered is parts, or rows at the last place
-parts_for : (set : RuleSetView) (t : Target) → IsFor set false t → (pairs : List (ℕ × ℕ)) × (t ≡ Parts pairs)
+pub parts_for : (set : RuleSetView) (t : Target) → IsFor set false t → (pairs : List (ℕ × ℕ)) × (t ≡ Parts pairs)
 parts_for set (Parts pairs) kind = (pairs, refl)
 parts_for set (Rows rows) kind = absurd cc
 
@@ -67,7 +67,7 @@ rows_for set (Rows rows) kind = (rows, refl, kind.1)
 
 module _ (set : RuleSetView) (group : List ℕ) where
   -- the kept places of the group
-  abbrev places : List ℕ
+  abbrev pub places : List ℕ
   places = kept_places set group
 
   -- the rule is one of the group
@@ -80,11 +80,11 @@ module _ (set : RuleSetView) (group : List ℕ) where
     pub member : IsMember (number_in entry)
 
   -- the runs and the words of the places from some on
-  abbrev runs_from : List ℕ → List (List (List Run))
+  abbrev pub runs_from : List ℕ → List (List (List Run))
   runs_from ps = level_runs set (states_at set group) (rows_of set group) ps
 
   -- the words of the places from some on
-  abbrev words_from : List ℕ → ℕ
+  abbrev pub words_from : List ℕ → ℕ
   words_from ps = words_of (runs_from ps) (rows_of set group)
 
   -- The places before one are merged: their runs stand before those of the others, and the words are those so far. The
@@ -115,11 +115,11 @@ module _ (set : RuleSetView) (group : List ℕ) where
 
   module _ (its : IsGrouped set group) where
     -- each rule of the group is in the set, with lawful values
-    abbrev held : AllByRecursion (IsHeld set) group
+    abbrev pub held : AllByRecursion (IsHeld set) group
     held = group_held set group its.rules its.layout its.group.within
 
     -- a key has at least one byte
-    abbrev key : 0 < key_len_of set.layout
+    abbrev pub key : 0 < key_len_of set.layout
     key = (short_keys set.layout its.layout).0
 
     -- a kept place is one of the key
@@ -127,7 +127,7 @@ module _ (set : RuleSetView) (group : List ℕ) where
     kept_inside place below = place_inside set group held its.group.some key place below
 
     -- an entry can be asked about bytes at its place
-    entry_can_ask : (place entry : ℕ) → place < length places → EntryOf (get_or places place 0) entry
+    pub entry_can_ask : (place entry : ℕ) → place < length places → EntryOf (get_or places place 0) entry
         → CanStep (place_of set places place) entry
     entry_can_ask place entry below of =
         let at = of.at in
@@ -136,6 +136,29 @@ module _ (set : RuleSetView) (group : List ℕ) where
         (subst (λ n. Stands (values_of set at.number) (field_at set.layout n) at.edge) at.long
         (packed_stands set.layout (values_of set at.number) at.key at.edge at.held.lawful at.bytes
         (omega (arith, at.long, kept_inside place below)) at.packed)))
+
+    -- what a byte makes of an entry is one of the next place
+    pub entry_after : (place entry after : ℕ) → place < length places → place + 1 < length places
+        → EntryOf (get_or places place 0) entry → IsAfter (column_at set (get_or places place 0)) entry after
+        → EntryOf (get_or places (place + 1) 0) after
+    unfolding packed_state entries_step
+    entry_after place entry after below more of (byte, small, steps) =
+        let gap = gap_next set group held its.group.some key place below more in
+        let at = of.at in
+        let rule : ℕ = at.number in
+        let member = subst IsMember (ap number_in at.is ∙ number_in-entry_of rule at.edge) of.member in
+        let nexts = entries_next set (rule ∷ []) (at.held, tt) (get_or places place 0) (get_or places (place + 1) 0)
+        (record {
+          rises = gap.rises;
+          within = gap.within;
+          wild = λ between from until. wild_alone rule between member (gap.wild between from until);
+        })
+        at.key byte (at.bytes, at.long) small in
+        record {
+          at = (rw (at.packed, ← at.is, steps) at nexts).0;
+          member = subst IsMember (sym (step_number (column_at set (get_or places place 0)) entry byte after steps))
+              of.member;
+        }
 
     -- ---- before the first byte
 
@@ -206,23 +229,23 @@ module _ (set : RuleSetView) (group : List ℕ) where
 
     module _ (place : ℕ) where
       -- what the place has of each rule, whether it is the last one, its states and what they lead to
-      abbrev column : ColumnView
+      abbrev pub column : ColumnView
       column = place_of set places place
 
       -- the place is the last kept one
-      abbrev is_last : Bool
+      abbrev pub is_last : Bool
       is_last = place + 1 == length places
 
       -- the entries that are found at the place
-      abbrev states : List (List ℕ)
+      abbrev pub states : List (List ℕ)
       states = packed_at set group (get_or places place 0)
 
       -- what these entries lead to
-      abbrev found : List (List ℕ)
+      abbrev pub found : List (List ℕ)
       found = level_found set column is_last states
 
       -- and their runs
-      abbrev its_runs : List (List Run)
+      abbrev pub its_runs : List (List Run)
       its_runs = map (state_runs set column is_last found) states
 
       module _ (below : place < length places) where
@@ -233,13 +256,13 @@ module _ (set : RuleSetView) (group : List ℕ) where
             ∙ (level_here set group held its.group.some key place below).runs
 
         -- the words of the places from one on are its own and those of the places after it
-        words_split : words_from (drop place places) ≡ states_words its_runs + words_from (drop (place + 1) places)
+        pub words_split : words_from (drop place places) ≡ states_words its_runs + words_from (drop (place + 1) places)
         words_split =
             let rest : List (List (List Run)) = runs_from (drop (place + 1) places) in
             rw runs_split (omega (arith, sum_by-cons (λ (s : List (List Run)). states_words s) its_runs rest))
 
         -- what is found are the states of the next place, or the rows
-        found_next : place + 1 < length places → found ≡ packed_at set group (get_or places (place + 1) 0)
+        pub found_next : place + 1 < length places → found ≡ packed_at set group (get_or places (place + 1) 0)
         found_next more =
             let at : place + 1 + 0 ≡ place + 1 = omega arith in
             rw (get_or-drop (place + 1) places 0 0, at) at
@@ -296,29 +319,14 @@ module _ (set : RuleSetView) (group : List ℕ) where
       -- what a byte makes of their entries are entries of the next place
       next_entry : (pairs : List (ℕ × ℕ)) → target ≡ Parts pairs → place + 1 < length places → (after : ℕ)
           → ComesFrom (column place) pairs after → EntryOf (get_or places (place + 1) 0) after
-      unfolding packed_state entries_step
-      next_entry pairs is more after (entry, has, (byte, small, steps)) =
-          let of = so_far.entries below entry (rw is has) in
-          let gap = gap_next set group held its.group.some key place below more in
-          let at = of.at in
-          let rule : ℕ = at.number in
-          let member = subst IsMember (ap number_in at.is ∙ number_in-entry_of rule at.edge) of.member in
-          let nexts = entries_next set (rule ∷ []) (at.held, tt) (get_or places place 0) (get_or places (place + 1) 0)
-          (record {
-            rises = gap.rises;
-            within = gap.within;
-            wild = λ between from until. wild_alone rule between member (gap.wild between from until);
-          })
-          at.key byte (at.bytes, at.long) small in
-          record {
-            at = (rw (at.packed, ← at.is, steps) at nexts).0;
-            member = subst IsMember (sym (step_number (column place) entry byte after steps)) of.member;
-          }
+      next_entry pairs is more after (entry, has, comes) =
+          entry_after place entry after below more (so_far.entries below entry (rw is has)) comes
 
       -- the next place
       pub placed_on : {new : Merged}
           → ((pairs : List (ℕ × ℕ)) → target ≡ Parts pairs
-          → PlaceMerged set (column place) (is_last place) (record { cap = cap; before = words }) pairs numbers new)
+          → PlaceMerged set (column place) (is_last place)
+          (record { cap = cap; before = words; states = length numbers }) pairs numbers new)
           → Placed cap (place + 1) (levels ++ runs_in new ∷ []) (target_of new) (numbers_of new) new.words
       placed_on {new = new} merges =
           let merged = merges parts.0 parts.1 in

@@ -8,6 +8,7 @@ pub mod Numbers
 pub mod FoundNumbers
 pub mod Places
 pub mod Priced
+pub mod Probed
 pub mod Shared
 pub mod Started
 pub mod Wild

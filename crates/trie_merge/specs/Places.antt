@@ -1,5 +1,5 @@
 -- What a kept place of a group is, and what its states come to.
-use Rattle.std.specs.Prelude.{◌≡◌, ℕ, ◌+◌, ◌<◌, ◌≤◌, ◌==◌, List, length, nat_lt, slice_index_or}
+use Rattle.std.specs.Prelude.{◌≡◌, ℕ, ◌+◌, ◌<◌, ◌≤◌, ◌==◌, List, length, take, nat_lt, slice_index_or}
 use Rattle.std.specs.Prelude.{true, Bool, Option, Some, None, IfSome, if◌then◌else◌}
 use Rattle.field_defs.specs.Layout.{key_len_of}
 use Rattle.rule_set.specs.Rule.{RuleSetView}
@@ -67,12 +67,13 @@ pub record CanMergePlace (set : RuleSetView) (places : List ℕ) (j : ℕ) (budg
   pub states : AreStates set places j reached
   pub known : IsKnown set places j ahead
 
--- All that it gives: its states are merged, and what the next place has of each rule was looked up.
+-- All that it gives: its first states are merged, as many as the budget has, and what the next place has
+-- of each rule was looked up.
 pub record MergesPlace (set : RuleSetView) (places : List ℕ) (j : ℕ) (budget : Budget)
     (reached : Reached) (ahead : Option ColumnView) (merged : Merged) : Type 0 where
   pub states : (pairs : List (ℕ × ℕ)) → reached.target ≡ Parts pairs →
       PlaceMerged set (place_of set places j) (j + 1 == length places) budget pairs
-      reached.found.keys merged
+      (take budget.states reached.found.keys) merged
   pub pieces : ArePieces merged
   pub next : ahead ≡ next_of set places j
 
@@ -81,6 +82,6 @@ abbrev pub IsPlaceOver : RuleSetView → List ℕ → ℕ → Budget → Reached
 IsPlaceOver set places j budget reached =
     (pairs : List (ℕ × ℕ)) → reached.target ≡ Parts pairs →
     (group : List ℕ) (tree : RuleTree) (lists : List (List ℕ)) →
-    ArePlaced set group tree pairs lists reached.found.keys →
+    ArePlaced set group tree pairs lists (take budget.states reached.found.keys) →
     budget.cap < least_words set (place_of set places j) (next_of set places j)
     (j + 1 == length places) budget.before lists

@@ -4,7 +4,8 @@
 //!
 //! 1. `keep` finds the places of the key that are kept.
 //! 2. `start` makes the state before the first byte.
-//! 3. `merge_places` merges the states of each place, `merge_place` after `merge_place`.
+//! 3. `merge_places` merges the states of each place, `merge_place` after `merge_place`, and once
+//!    looks ahead by `probe_places`.
 //! 4. `finish` reads the rows, and adds their words.
 //!
 //! What a call asks for, and what it gives, is one record each: of `specs/Places.antt` for a place,
@@ -20,8 +21,7 @@ ghost use Rattle.group_states.specs.Laws.{IsGrouped};
 ghost use Rattle.group_states.specs.Levels.{IsGroup, levels_of};
 ghost use Rattle.group_states.specs.Row.{rows_of};
 ghost use Rattle.trie_merge.specs.Gathered.{CanMergeGroup, GathersGroup, IsBegun};
-ghost use Rattle.trie_merge.specs.Places.{AreInKey, CanMergePlace, IsEmptyFor, IsKnown};
-ghost use Rattle.trie_merge.specs.Places.{IsPlaceAt, IsPlaceOver, MergesPlace, next_of};
+ghost use Rattle.trie_merge.specs.Probed.{IsProbed};
 ghost use Rattle.trie_merge.specs.Started.{numbers_in, AreJoined, IsStarted, AreRows};
 ghost use Rattle.trie_merge.specs.declared.order.Keyed.{Keyed};
 
@@ -30,14 +30,23 @@ use crate::entry::entry_of;
 use crate::found::Found;
 use crate::kept::Kept;
 use crate::levels::{Level, Levels};
-use crate::merge::{Budget, FIRST_ROOM, MergeFault, Merged, Place, Reached, merge_states};
-use crate::names::{name_rows, names_of, rank_rules};
+use crate::merge::{Budget, MergeFault, Merged, Reached};
+use crate::names::{name_rows, names_of};
 use crate::order::{Keyed, order_rules};
+use crate::place::merge_place;
+use crate::probe::probe_places;
 use node_expand::Edge;
 use rule_set::RuleSet;
-use state_parts::{Parts, Rows, Target};
+use state_parts::{Parts, Target};
 use std::alloc::{AllocError, Global};
 use table_sizes::ROW_LEN;
+
+/// From how many states of one place on a group is probed.
+const PROBED_FROM: usize = 300_000;
+
+/// How many states of each place are merged at most when a group is probed. With fewer of them a
+/// group above its cap isn't told from one below it.
+const PROBED_STATES: usize = 131_072;
 
 /// The entries of the rules before the first byte.
 fn start_entries(alloc: Global, order: &[Keyed]) -> Result<Vec<u32>, AllocError>
@@ -94,6 +103,8 @@ struct Gathered {
     words: u64,
     /// What the next place has of each rule, where that was looked up already.
     ahead: Option<Column>,
+    /// Whether the group was probed.
+    is_probed: bool,
 }
 
 impl Gathered {
@@ -120,93 +131,33 @@ impl Gathered {
     }
 }
 
-/// The next kept place, where that isn't the last one.
-fn next_column(
+/// Probes the states that are found before the kept place of that number, where they are very many
+/// and none were probed before. Says whether any are probed now.
+fn probe_once(
     alloc: Global,
     rules: &RuleSet,
+    group: &[u32],
+    cap: u64,
     places: &[usize],
-    j: usize,
-) -> Result<Option<Column>, AllocError>
-    requires places { AreInKey rules.now places.now }
-    requires j { j < length places.now }
-    ensures { IfOk result (λ next. next ≡ next_of rules.now places.now j) }
+    from: usize,
+    gathered: &Gathered,
+) -> Result<bool, MergeFault>
+    requires can { CanMergeGroup rules.now group.now cap places.now }
+    requires probed { from + 2 < length places.now → IsProbed rules.now group.now cap places.now
+        from gathered.now.reached.target gathered.now.reached.found.keys gathered.now.words }
+    ensures over { (result ≡ Err MergeFault.OverCap) → cap < (levels_of rules.now group.now).words }
 {
-    if j + 2 < places.len() {
-        let next = Column::new(alloc, rules, places[j + 1])?;
-        Ok(Some(next))
-    } else {
-        Ok(None)
+    let found = gathered.reached.found.len();
+    if gathered.is_probed || found < PROBED_FROM || from >= places.len().saturating_sub(2) {
+        return Ok(gathered.is_probed);
     }
-}
-
-/// The kept place of that number.
-fn place_at(
-    alloc: Global,
-    rules: &RuleSet,
-    places: &[usize],
-    j: usize,
-    ahead: Option<Column>,
-) -> Result<Place, AllocError>
-    requires places { AreInKey rules.now places.now }
-    requires j { j < length places.now }
-    requires ahead { IsKnown rules.now places.now j ahead }
-    ensures { IfOk result (IsPlaceAt rules.now places.now j) }
-{
-    let column = match ahead {
-        Some(column) => column,
-        None => Column::new(alloc, rules, places[j])?,
+    let budget = Budget {
+        cap,
+        before: gathered.words,
+        states: PROBED_STATES,
     };
-    let next = next_column(alloc, rules, places, j)?;
-    Ok(Place {
-        column,
-        is_last: j + 1 == places.len(),
-        next,
-    })
-}
-
-/// Nothing yet of what a place leads to, with room for about as many parts as there are before it.
-fn start_target(
-    alloc: Global,
-    rules: &RuleSet,
-    is_last: bool,
-    before: usize,
-) -> Result<Target, AllocError>
-    ensures { IfOk result (IsEmptyFor rules.now is_last) }
-{
-    if is_last {
-        let ranked = rank_rules(alloc, rules)?;
-        return Ok(Target::Rows(Rows::new(alloc, ranked)));
-    }
-    let parts = Parts::with_room(alloc, before.min(FIRST_ROOM))?;
-    Ok(Target::Parts(parts))
-}
-
-/// Merges the states of the kept place of that number. `ahead` is what the place has of each rule,
-/// where that was looked up before, and then what the next one has.
-fn merge_place(
-    alloc: Global,
-    rules: &RuleSet,
-    places: &[usize],
-    j: usize,
-    budget: Budget,
-    reached: &Reached,
-    ahead: &mut Option<Column>,
-) -> Result<Merged, MergeFault>
-    requires { CanMergePlace rules.now places.now j budget reached.now ahead.old }
-    ensures merged { IfOk result
-        (MergesPlace rules.now places.now j budget reached.now ahead.new) }
-    ensures over { (result ≡ Err MergeFault.OverCap) →
-        IsPlaceOver rules.now places.now j budget reached.now }
-{
-    let place = place_at(alloc, rules, places, j, ahead.take())?;
-    let parts = reached.parts();
-    let target = start_target(alloc, rules, place.is_last, parts.len())?;
-    let states = reached.found.as_slice();
-    match merge_states(alloc, &place, budget, parts, states, target) {
-        Ok(merged) => {
-            *ahead = place.next;
-            Ok(merged)
-        }
+    match probe_places(alloc, rules, group, places, from, budget, &gathered.reached) {
+        Ok(()) => Ok(true),
         Err(fault) => Err(fault),
     }
 }
@@ -226,14 +177,21 @@ fn merge_places(
     ensures over { (result ≡ Err MergeFault.OverCap) → cap < (levels_of rules.now group.now).words }
 {
     for j in 0..places.len() {
-        let before = gathered.words;
-        let budget = Budget { cap, before };
+        let budget = Budget {
+            cap,
+            before: gathered.words,
+            states: gathered.reached.found.len(),
+        };
         let ahead = &mut gathered.ahead;
         let merged = match merge_place(alloc, rules, places, j, budget, &gathered.reached, ahead) {
             Ok(merged) => merged,
             Err(fault) => return Err(fault),
         };
         gathered.push(merged)?;
+        gathered.is_probed = match probe_once(alloc, rules, group, cap, places, j + 1, gathered) {
+            Ok(is_probed) => is_probed,
+            Err(fault) => return Err(fault),
+        };
     }
     Ok(())
 }
@@ -256,6 +214,7 @@ fn merge_group(
         reached,
         words: 0,
         ahead: None,
+        is_probed: false,
     };
     match merge_places(alloc, rules, group, cap, places, &mut gathered) {
         Ok(()) => Ok(gathered),

@@ -23,6 +23,8 @@
 //! - `names`: the rows of ranks that are found at the end as rows of the rules' numbers.
 //! - `merge`: the states of one place, one after the other. Their words, and the least that the
 //!   states found take, are held against the cap.
+//! - `place`: one kept place, from what is reached before it.
+//! - `probe`: a look ahead at a group of which a place leads to very many states.
 //! - `kept`: the places of the kept input groups.
 //! - `order`: the order of the rules in the tree.
 //! - `build`: all kept places, one after the other; [`Levels::build`] and [`count_capped`].
@@ -41,6 +43,8 @@ mod merge;
 mod names;
 mod number;
 mod order;
+mod place;
+mod probe;
 
 pub use build::count_capped;
 pub use group_states::{Run, Succ, laws};

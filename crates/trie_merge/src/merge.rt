@@ -79,11 +79,13 @@ pub(crate) struct Place {
     pub(crate) next: Option<Column>,
 }
 
-/// How many words there may be, and how many there are before the states of a place.
+/// How many words there may be, how many there are before the states of a place, and how many of
+/// these states are merged at most.
 #[derive(Clone, Copy)]
 pub(crate) struct Budget {
     pub(crate) cap: u64,
     pub(crate) before: u64,
+    pub(crate) states: usize,
 }
 
 /// What the bytes of a place lead to, and the numbers of what its states lead to.
@@ -227,7 +229,7 @@ fn merge_state(
 
 /// The price of a number, where the place after it is given: the bytes at which its part changes
 /// what it leads to there tell the words of its state.
-fn price_ahead(
+pub(crate) fn price_ahead(
     next: &Column,
     target: &Target,
     cuts: &mut Vec<Cuts>,

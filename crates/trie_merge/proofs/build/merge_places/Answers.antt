@@ -2,8 +2,10 @@
 use Rattle.std.proofs.Common.{◌≡◌, ◌+◌, length, Err, Some, None, ap, refl, arith}
 use Rattle.std.specs.Prelude.{IfSome, nat_lt}
 use Rattle.std.proofs.lemmas.Bool.{cond_both}
+use Rattle.std.proofs.Math.Seq.{take-length}
 use Rattle.trie_merge.proofs.build.merge_places.Goals as goal
 use Rattle.trie_merge.proofs.Placing.{kept_inside, placed_start, placed_states, placed_on, placed_over, placed_end}
+use Rattle.trie_merge.proofs.Probing.{probed_first}
 use Rattle.trie_merge.specs.Places.{place_of}
 use Rattle.trie_merge.specs.declared.merge.MergeFault.TheVariants.{OverCap}
 
@@ -27,6 +29,16 @@ merge_place-requires c =
       known = c.loop-j.invariant.1;
     }
 
+pub probe_once-requires-clause-probed : goal.probe_once-requires-clause-probed
+probe_once-requires-clause-probed c = λ later.
+    let can = c.requires.can in
+    let its = c.in_ok-push.ensures in
+    rw (can.kept, its.target, its.found, its.words)
+    (probed_first _ _ can.grouped
+    (placed_on _ _ can.grouped c.loop-j.invariant.0 (rw (← can.kept) c.loop-j-test.true)
+    (rw (can.kept, c.len.ensures.len, take-length) at c.in-Ok.ensures.merged.states))
+    (rw (← can.kept) later))
+
 pub loop-j-preserved : goal.loop-j-preserved
 loop-j-preserved c =
     let can = c.requires.can in
@@ -35,7 +47,7 @@ loop-j-preserved c =
     let merged = c.in-Ok.ensures.merged in
     rw (its.levels, its.target, its.found, its.words, its.ahead, merged.next) (
       placed_on _ _ can.grouped c.loop-j.invariant.0 (rw (← can.kept) c.loop-j-test.true)
-          (rw can.kept at merged.states),
+          (rw (can.kept, c.len.ensures.len, take-length) at merged.states),
       cond_both (nat_lt (c.loop-j.j + 2) (length c.args.places.now)) (Some column) None
           (λ ahead. IfSome ahead (λ next. next ≡ column)) (λ _. refl) (λ _. tt),
     )
@@ -50,4 +62,4 @@ returns-in-Err-clause-over c = λ over.
     let can = c.requires.can in
     let is : c.in-Err.fault ≡ OverCap = cc in
     placed_over _ _ can.grouped c.loop-j.invariant.0 (rw (← can.kept) c.loop-j-test.true)
-    (rw can.kept at (c.in-Err.ensures.over (ap Err is)))
+    (rw (can.kept, c.len.ensures.len, take-length) at (c.in-Err.ensures.over (ap Err is)))

@@ -1,4 +1,4 @@
-use Rattle.std.proofs.Common.{refl, arith, length}
+use Rattle.std.proofs.Common.{refl, arith}
 use Rattle.trie_merge.proofs.build.start_states.Goals as goal
 use Rattle.trie_merge.specs.Started.{numbers_in}
 

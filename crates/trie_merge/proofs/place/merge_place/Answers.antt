@@ -1,17 +1,20 @@
 -- Nothing is numbered at first, so what the states come to is all that is found.
 use Rattle.std.proofs.Common.{Some, None, ◌≡◌, Err, ap, subst}
-use Rattle.trie_merge.proofs.build.merge_place.Goals as goal
+use Rattle.std.proofs.lemmas.List.Elements.{All-take}
+use Rattle.state_parts.specs.declared.target.Target.TheVariants.{Parts}
+use Rattle.trie_merge.proofs.place.merge_place.Goals as goal
 use Rattle.trie_merge.specs.Cuts.{CanAsk}
-use Rattle.trie_merge.specs.Priced.{AreNumbers}
+use Rattle.trie_merge.specs.Priced.{IsNumber, AreNumbers}
 use Rattle.trie_merge.specs.declared.merge.MergeFault.TheVariants.{OverCap}
 
 pub merge_states-requires : goal.merge_states-requires
 merge_states-requires c =
     let place = c.in_ok-place.ensures in
     record {
-      numbers = rw c.as_slice-states.ensures.keys
+      numbers = rw (c.first_of.ensures.first, c.as_slice.ensures.keys)
+          (All-take (λ number. IsNumber (Parts c.parts-parts.result.now) number) c.args.budget.states c.args.reached.now.found.keys
           (subst (λ target. AreNumbers target c.args.reached.now.found.keys) c.parts-parts.ensures
-          c.requires.states.inside);
+          c.requires.states.inside));
       can = record {
         step = λ entry has. rw place.column (c.requires.states.step entry (rw c.parts-parts.ensures has));
         last = place.last;
@@ -34,7 +37,7 @@ returns-in-Ok-clause-merged c =
     record {
       states = λ pairs is.
           (let same : c.parts-parts.result.now ≡ pairs = cc in
-          let each = rw (c.as_slice-states.ensures.keys, place.column, place.is_last, same) at its.each in
+          let each = rw (c.first_of.ensures.first, c.as_slice.ensures.keys, place.column, place.is_last, same) at its.each in
           record {
             old = c.in_ok-target.target;
             kind = kind;
@@ -54,5 +57,5 @@ returns-in-Err-clause-over c = λ over pairs is group tree lists.
     let kind = rw place.is_last at c.in_ok-target.ensures.kind in
     let fault : c.in-Err.fault ≡ OverCap = cc in
     let same : c.parts-parts.result.now ≡ pairs = cc in
-    (rw (c.as_slice-states.ensures.keys, place.column, place.next, place.is_last, same) at
+    (rw (c.first_of.ensures.first, c.as_slice.ensures.keys, place.column, place.next, place.is_last, same) at
     (c.in-Err.ensures.over (ap Err fault))) c.args.rules.now group tree lists kind
