@@ -18,7 +18,7 @@ use Rattle.acl_report.specs.Counting.{counted}
 use Rattle.capture_report.specs.Packet.{IsPacket}
 use Rattle.capture_report.specs.ReportForm.{ReportForm}
 use Rattle.capture_report.specs.Report.{counted_all, line_of_packet, lines_of_packets}
-use Rattle.capture_report.specs.Batch.{AreAnswered, AreMarked, AreNext, verdicts_of, verdicts_on}
+use Rattle.capture_report.specs.Batch.{AreAnswered, AreInFront, AreMarked, AreNext, verdicts_of, verdicts_on}
 use Rattle.capture_report.specs.Batch.{dashes_of, dashes_of_family, dashes_on}
 use Rattle.capture_report.proofs.LineLaws.{counted-packets}
 use Rattle.capture_report.proofs.Marks.{dashes_count}
@@ -146,7 +146,7 @@ front_verdicts table key others left n count is is_count =
     )
 
 -- so it is of the first IPv4 packet
-pub verdicts_ip4 : {form : ReportForm} {p : FrameClass} {rest : List FrameClass} {ip4 ip6 : List ℕ} {count : ℕ} →
+verdicts_ip4 : {form : ReportForm} {p : FrameClass} {rest : List FrameClass} {ip4 ip6 : List ℕ} {count : ℕ} →
     AreAnswered form (p ∷ rest) ip4 ip6 → p.class ≡ Ip4 → count ≡ form.categories →
     (count ≤ length ip4) × (take count ip4 ≡ verdicts_on p.class form p.key)
 verdicts_ip4 {form = form} {p = p} {rest = rest} {ip4 = ip4} {count = count} answered is is_count =
@@ -156,7 +156,7 @@ verdicts_ip4 {form = form} {p = p} {rest = rest} {ip4 = ip4} {count = count} ans
     (rw is at answered.on_ip4) is_count)
 
 -- and of the first IPv6 packet
-pub verdicts_ip6 : {form : ReportForm} {p : FrameClass} {rest : List FrameClass} {ip4 ip6 : List ℕ} {count : ℕ} →
+verdicts_ip6 : {form : ReportForm} {p : FrameClass} {rest : List FrameClass} {ip4 ip6 : List ℕ} {count : ℕ} →
     AreAnswered form (p ∷ rest) ip4 ip6 → p.class ≡ Ip6 → count ≡ form.categories →
     (count ≤ length ip6) × (take count ip6 ≡ verdicts_on p.class form p.key)
 verdicts_ip6 {form = form} {p = p} {rest = rest} {ip6 = ip6} {count = count} answered is is_count =
@@ -188,7 +188,7 @@ front_dashes form table key others left count is is_count =
     )
 
 -- so it is of the first IPv4 packet
-pub front_ip4 : {form : ReportForm} {p : FrameClass} {rest : List FrameClass} {ip4 ip6 : List Bool} {count : ℕ} →
+front_ip4 : {form : ReportForm} {p : FrameClass} {rest : List FrameClass} {ip4 ip6 : List Bool} {count : ℕ} →
     AreMarked form (p ∷ rest) ip4 ip6 → p.class ≡ Ip4 → count ≡ form.categories →
     (count ≤ length ip4) × (take count ip4 ≡ dashes_on p.class form p.key)
 front_ip4 {form = form} {p = p} {rest = rest} {ip4 = ip4} {count = count} marked is is_count =
@@ -197,7 +197,7 @@ front_ip4 {form = form} {p = p} {rest = rest} {ip4 = ip4} {count = count} marked
     (rw is at marked.on_ip4) is_count)
 
 -- and of the first IPv6 packet
-pub front_ip6 : {form : ReportForm} {p : FrameClass} {rest : List FrameClass} {ip4 ip6 : List Bool} {count : ℕ} →
+front_ip6 : {form : ReportForm} {p : FrameClass} {rest : List FrameClass} {ip4 ip6 : List Bool} {count : ℕ} →
     AreMarked form (p ∷ rest) ip4 ip6 → p.class ≡ Ip6 → count ≡ form.categories →
     (count ≤ length ip6) × (take count ip6 ≡ dashes_on p.class form p.key)
 front_ip6 {form = form} {p = p} {rest = rest} {ip6 = ip6} {count = count} marked is is_count =
@@ -246,21 +246,41 @@ marked_none {p = p} marked shown (inr is) is_left4 is_left6 =
     let short : p.class ≡ Short = sym shown ∙ is in
     rw (is_left4, is_left6) record { on_ip4 = rw short at marked.on_ip4; on_ip6 = rw short at marked.on_ip6 }
 
--- What is taken for the dashes of an IPv4 packet is what it shows: they stand in front, or marks
--- aren't asked for and none is shown.
-pub shown_ip4 : {form : ReportForm} {p : FrameClass} {rest : List FrameClass} {ip4 ip6 dashes : List Bool} {count : ℕ} →
-    (marks : Bool) → form.marks ≡ marks → (form.marks ≡ true → AreMarked form (p ∷ rest) ip4 ip6) → p.class ≡ Ip4 →
-    count ≡ form.categories → (marks ≡ true → dashes ≡ take count ip4) →
-    (marks ≡ false → dashes ≡ replicate count false) → dashes ≡ dashes_on p.class form p.key
-shown_ip4 true asked marked is is_count front none = front refl ∙ (front_ip4 (marked asked) is is_count).1
-shown_ip4 false off marked is is_count front none =
-    none refl ∙ rw (is, off) (ap (λ n. replicate n false) is_count)
+-- the answers for the first IPv4 packet stand in front
+pub in_front_ip4 : {form : ReportForm} {p : FrameClass} {rest : List FrameClass} {ip4 ip6 : List ℕ}
+    {dashes4 dashes6 : List Bool} → AreAnswered form (p ∷ rest) ip4 ip6 →
+    (form.marks ≡ true → AreMarked form (p ∷ rest) dashes4 dashes6) → p.class ≡ Ip4 → AreInFront form p ip4 dashes4
+in_front_ip4 answered marked is =
+    let verdicts = verdicts_ip4 answered is refl in
+    record {
+      few = verdicts.0;
+      verdicts_are = verdicts.1;
+      marks_fit = λ asked. (front_ip4 (marked asked) is refl).0;
+      marks_are = λ asked. (front_ip4 (marked asked) is refl).1;
+      unmarked = λ off. rw (is, off) refl;
+    }
 
--- and of an IPv6 packet
-pub shown_ip6 : {form : ReportForm} {p : FrameClass} {rest : List FrameClass} {ip4 ip6 dashes : List Bool} {count : ℕ} →
-    (marks : Bool) → form.marks ≡ marks → (form.marks ≡ true → AreMarked form (p ∷ rest) ip4 ip6) → p.class ≡ Ip6 →
-    count ≡ form.categories → (marks ≡ true → dashes ≡ take count ip6) →
-    (marks ≡ false → dashes ≡ replicate count false) → dashes ≡ dashes_on p.class form p.key
-shown_ip6 true asked marked is is_count front none = front refl ∙ (front_ip6 (marked asked) is is_count).1
-shown_ip6 false off marked is is_count front none =
-    none refl ∙ rw (is, off) (ap (λ n. replicate n false) is_count)
+-- and those for the first IPv6 packet
+pub in_front_ip6 : {form : ReportForm} {p : FrameClass} {rest : List FrameClass} {ip4 ip6 : List ℕ}
+    {dashes4 dashes6 : List Bool} → AreAnswered form (p ∷ rest) ip4 ip6 →
+    (form.marks ≡ true → AreMarked form (p ∷ rest) dashes4 dashes6) → p.class ≡ Ip6 → AreInFront form p ip6 dashes6
+in_front_ip6 answered marked is =
+    let verdicts = verdicts_ip6 answered is refl in
+    record {
+      few = verdicts.0;
+      verdicts_are = verdicts.1;
+      marks_fit = λ asked. (front_ip6 (marked asked) is refl).0;
+      marks_are = λ asked. (front_ip6 (marked asked) is refl).1;
+      unmarked = λ off. rw (is, off) refl;
+    }
+
+-- What is taken for the dashes of a packet is what it shows: they stand in front, or marks aren't
+-- asked for and none is shown.
+pub shown_own : {form : ReportForm} {p : FrameClass} {verdicts : List ℕ} {left dashes : List Bool} {count : ℕ} →
+    (marks : Bool) → form.marks ≡ marks → AreInFront form p verdicts left → count ≡ form.categories →
+    (marks ≡ true → dashes ≡ take count left) → (marks ≡ false → dashes ≡ replicate count false) →
+    dashes ≡ dashes_on p.class form p.key
+shown_own {left = left} true asked own is_count front none =
+    front refl ∙ ap (λ n. take n left) is_count ∙ own.marks_are asked
+shown_own false off own is_count front none =
+    none refl ∙ ap (λ n. replicate n false) is_count ∙ sym (own.unmarked off)

@@ -1,5 +1,5 @@
 -- What the code makes of the packets of a batch: their keys, verdicts and dashes, by family.
-use Rattle.std.specs.Prelude.{◌≡◌, ℕ, ◌+◌, ◌*◌, ◌≤◌, List, [], ◌∷◌, ◌++◌, length, map, replicate}
+use Rattle.std.specs.Prelude.{◌≡◌, ℕ, ◌+◌, ◌*◌, ◌≤◌, List, [], ◌∷◌, ◌++◌, length, map, replicate, take}
 use Rattle.std.specs.Prelude.{All, Bool, true, false, not, if◌then◌else◌}
 use Rattle.field_defs.specs.declared.field.Family.{Family}
 use Rattle.field_defs.specs.declared.field.Family.TheVariants as family
@@ -112,6 +112,18 @@ dashes_of_family family table form (packet ∷ packets) =
     if is_of family packet.class
     then dashes_of form table packet.key ++ dashes_of_family family table form packets
     else dashes_of_family family table form packets
+
+-- In front of what is left of the answers for a family stand those for this packet of it.
+pub record AreInFront (form : ReportForm) (packet : FrameClass) (verdicts : List ℕ)
+    (dashes : List Bool) : Type 0 where
+  pub few : form.categories ≤ length verdicts
+  pub verdicts_are :
+      take form.categories verdicts ≡ verdicts_on packet.class form packet.key
+  pub marks_fit : form.marks ≡ true → form.categories ≤ length dashes
+  pub marks_are : form.marks ≡ true →
+      take form.categories dashes ≡ dashes_on packet.class form packet.key
+  pub unmarked : form.marks ≡ false →
+      dashes_on packet.class form packet.key ≡ replicate form.categories false
 
 -- These are the dashes of the IPv4 packets, and those of the IPv6 packets.
 pub record AreMarked (form : ReportForm) (packets : List FrameClass) (ip4 ip6 : List Bool)

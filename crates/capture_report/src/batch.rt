@@ -15,8 +15,8 @@ pub const MAX_BATCH: usize = 64;
 /// Why no more records are taken into a batch.
 #[derive(Clone, Copy)]
 pub enum BatchEnd {
-    /// The capture may have more: there are as many as a batch may have, or the next one may have to
-    /// be waited for.
+    /// The capture may have more: there are as many as a batch may have, or the next one may have
+    /// to be waited for.
     More,
     /// The capture has no more records.
     End,

@@ -86,16 +86,8 @@ fn put_lines<O: Sink, L: Ledger>(
     let (given, marks) = (&mut room.ip6.verdicts, &mut room.ip6.dashes);
     let ip6 = walk_keys(form, Family::Ip6, packets, keys, rows, given, marks, steps);
     *transitions += ip4.transitions + ip6.transitions;
-    let len = write_lines(
-        form,
-        packets,
-        &room.ip4.verdicts[..ip4.verdicts],
-        &room.ip6.verdicts[..ip6.verdicts],
-        &room.ip4.dashes[..ip4.verdicts],
-        &room.ip6.dashes[..ip6.verdicts],
-        counts,
-        &mut room.lines,
-    );
+    let (ip4, ip6) = (room.ip4.first(ip4.verdicts), room.ip6.first(ip6.verdicts));
+    let len = write_lines(form, packets, ip4, ip6, counts, &mut room.lines);
     put_all(out, &room.lines[..len])
 }
 

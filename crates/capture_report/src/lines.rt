@@ -10,7 +10,7 @@ ghost use Rattle.capture_report.specs.Classifier.{ByTables};
 ghost use Rattle.capture_report.specs.Report.{counted_all, line_of_packet, line_of_table};
 ghost use Rattle.capture_report.specs.Report.{lines_of_packets};
 ghost use Rattle.capture_report.specs.CaptureOutcome.{last_text};
-ghost use Rattle.capture_report.specs.Batch.{AreAnswered, AreMarked, AreNext};
+ghost use Rattle.capture_report.specs.Batch.{AreAnswered, AreInFront, AreMarked, AreNext};
 ghost use Rattle.capture_report.specs.Batch.{dashes_on, verdicts_on};
 
 use crate::form::FormByTables;
@@ -23,27 +23,33 @@ use field_defs::Family;
 use flat_table::Table;
 use header_extract::Class;
 
+/// What is answered for the packets of a family, one packet after the other.
+#[derive(Clone, Copy)]
+pub struct FamilyAnswers<'a> {
+    /// The verdicts.
+    pub verdicts: &'a [u32],
+    /// Where the form asks for marks: beside each verdict whether a dash is shown for it.
+    pub dashes: &'a [bool],
+}
+
 /// Writes the lines of packets to the front of `lines`, counts the packets, and says how many bytes
 /// the lines have.
 ///
-/// The first has the number after those that were counted. `ip4` and `ip6` have the verdicts on
-/// the packets of each family, in order. Where the form asks for marks, `ip4_dashes` and
-/// `ip6_dashes` say for each whether a dash is shown.
-/// `lines` has [`LINE_ROOM`] bytes for each packet. It takes no memory.
+/// The first has the number after those that were counted. `ip4` and `ip6` have the answers for
+/// the packets of each family, in order. `lines` has [`LINE_ROOM`] bytes for each packet. It takes
+/// no memory.
 pub fn write_lines(
     form: &FormByTables<'_>,
     packets: &[Packet],
-    ip4: &[u32],
-    ip6: &[u32],
-    ip4_dashes: &[bool],
-    ip6_dashes: &[bool],
+    ip4: FamilyAnswers<'_>,
+    ip6: FamilyAnswers<'_>,
     counts: &mut Counts,
     lines: &mut [u8],
 ) -> usize
     requires next { AreNext counts.old packets.now }
-    requires answered { AreAnswered form.now packets.now ip4.now ip6.now }
+    requires answered { AreAnswered form.now packets.now ip4.verdicts.now ip6.verdicts.now }
     requires marked { form.now.marks ≡ true
-        → AreMarked form.now packets.now ip4_dashes.now ip6_dashes.now }
+        → AreMarked form.now packets.now ip4.dashes.now ip6.dashes.now }
     requires room { length packets.now * LINE_ROOM ≤ length lines.old }
     ensures within { result ≤ length lines.old }
     ensures lines { take result lines.new
@@ -54,18 +60,10 @@ pub fn write_lines(
     // What depends on the marks, and on a single category, is settled once, and not line by line.
     let one = form.categories().count() == 1;
     match (form.has_marks(), one) {
-        (true, true) => write_each::<true, true>(
-            form, packets, ip4, ip6, ip4_dashes, ip6_dashes, counts, lines,
-        ),
-        (true, false) => write_each::<true, false>(
-            form, packets, ip4, ip6, ip4_dashes, ip6_dashes, counts, lines,
-        ),
-        (false, true) => write_each::<false, true>(
-            form, packets, ip4, ip6, ip4_dashes, ip6_dashes, counts, lines,
-        ),
-        (false, false) => write_each::<false, false>(
-            form, packets, ip4, ip6, ip4_dashes, ip6_dashes, counts, lines,
-        ),
+        (true, true) => write_each::<true, true>(form, packets, ip4, ip6, counts, lines),
+        (true, false) => write_each::<true, false>(form, packets, ip4, ip6, counts, lines),
+        (false, true) => write_each::<false, true>(form, packets, ip4, ip6, counts, lines),
+        (false, false) => write_each::<false, false>(form, packets, ip4, ip6, counts, lines),
     }
 }
 
@@ -73,19 +71,17 @@ pub fn write_lines(
 fn write_each<const MARKS: bool, const ONE: bool>(
     form: &FormByTables<'_>,
     packets: &[Packet],
-    mut ip4: &[u32],
-    mut ip6: &[u32],
-    mut ip4_dashes: &[bool],
-    mut ip6_dashes: &[bool],
+    mut ip4: FamilyAnswers<'_>,
+    mut ip6: FamilyAnswers<'_>,
     counts: &mut Counts,
     lines: &mut [u8],
 ) -> usize
     requires marks { form.now.marks ≡ MARKS }
     requires one { ONE ≡ true → form.now.categories ≡ 1 }
     requires next { AreNext counts.old packets.now }
-    requires answered { AreAnswered form.now packets.now ip4.now ip6.now }
+    requires answered { AreAnswered form.now packets.now ip4.verdicts.now ip6.verdicts.now }
     requires marked { form.now.marks ≡ true
-        → AreMarked form.now packets.now ip4_dashes.now ip6_dashes.now }
+        → AreMarked form.now packets.now ip4.dashes.now ip6.dashes.now }
     requires room { length packets.now * LINE_ROOM ≤ length lines.old }
     ensures within { result ≤ length lines.old }
     ensures lines { take result lines.new
@@ -94,30 +90,55 @@ fn write_each<const MARKS: bool, const ONE: bool>(
     ensures len { length lines.new ≡ length lines.old }
 {
     let count = shown_categories::<ONE>(form);
-    let mut number = LineNumber::new(counts.packets + 1);
+    let mut line = LineNumber::new(counts.packets + 1);
     let mut at = 0;
     for packet in packets {
         // Each class has a call of its own, in which what depends on the class is settled.
         let class = packet.class();
         counts.add(class);
         at = match class {
-            Class::Ip4 => {
-                let verdicts = take_front(&mut ip4, count);
-                let dashes = take_dashes::<MARKS>(&mut ip4_dashes, count);
-                write_line(form, packet, class, verdicts, dashes, &number, lines, at)
-            }
-            Class::Ip6 => {
-                let verdicts = take_front(&mut ip6, count);
-                let dashes = take_dashes::<MARKS>(&mut ip6_dashes, count);
-                write_line(form, packet, class, verdicts, dashes, &number, lines, at)
-            }
+            Class::Ip4 => put_own::<MARKS>(form, packet, class, &mut ip4, count, &line, lines, at),
+            Class::Ip6 => put_own::<MARKS>(form, packet, class, &mut ip6, count, &line, lines, at),
             Class::Other | Class::Short => {
-                write_line(form, packet, class, &[], &[], &number, lines, at)
+                write_line(form, packet, class, &[], &[], &line, lines, at)
             }
         };
-        number.advance();
+        line.advance();
     }
     at
+}
+
+/// Writes the line of a packet of a family, whose answers stand in front of those that are left of
+/// the family, and takes them off.
+#[inline(always)]
+fn put_own<const MARKS: bool>(
+    form: &FormByTables<'_>,
+    packet: &Packet,
+    class: Class,
+    left: &mut FamilyAnswers<'_>,
+    count: usize,
+    number: &LineNumber,
+    lines: &mut [u8],
+    at: usize,
+) -> usize
+    requires marks { form.now.marks ≡ MARKS }
+    requires count { count ≡ form.now.categories }
+    requires few { count ≤ MAX_VERDICTS }
+    requires by_tables { form.now.classifier ≡ ByTables form.now.tables }
+    requires class { class ≡ packet.now.class }
+    requires front { AreInFront form.now packet.now left.old.verdicts.now left.old.dashes.now }
+    requires room { at + LINE_ROOM ≤ length lines.old }
+    ensures end { result ≤ at + LINE_ROOM }
+    ensures lines { take result lines.new
+        ≡ take at lines.old ++ line_of_packet form.now number.now packet.now }
+    ensures len { length lines.new ≡ length lines.old }
+    ensures verdicts { left.new.verdicts.now ≡ drop count left.old.verdicts.now }
+    ensures dashes { form.now.marks ≡ true
+        → left.new.dashes.now ≡ drop count left.old.dashes.now }
+{
+    let verdicts = take_front(&mut left.verdicts, count);
+    let dashes = take_dashes::<MARKS>(&mut left.dashes, count);
+    write_line(form, packet, class, verdicts, dashes, number, lines, at)
 }
 
 /// How many categories are shown of each packet, where it is known whether it is a single one.

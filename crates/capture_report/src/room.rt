@@ -1,9 +1,10 @@
 //! The memory of a batch: its packets, their keys, rows, answers and lines.
 
-ghost use Rattle.std.specs.Prelude.{IfOk};
+ghost use Rattle.std.specs.Prelude.{◌≡◌, ◌≤◌, IfOk, take, vec_len};
 ghost use Rattle.capture_report.specs.Rooms.{HasAnswers};
 
 use crate::batch::MAX_BATCH;
+use crate::lines::FamilyAnswers;
 use crate::packets::Packets;
 use crate::verdicts::{BATCH_KEYS, BATCH_VERDICTS};
 use acl_report::LINE_ROOM;
@@ -32,6 +33,20 @@ impl Answers {
             verdicts: vec![in alloc; 0; BATCH_VERDICTS]?,
             dashes: vec![in alloc; false; BATCH_VERDICTS]?,
         })
+    }
+
+    /// The first of them, so many verdicts and marks.
+    #[inline]
+    pub fn first(&self, count: usize) -> FamilyAnswers<'_>
+        requires verdicts { count ≤ vec_len self.now.verdicts }
+        requires dashes { count ≤ vec_len self.now.dashes }
+        ensures verdicts { result.verdicts.now ≡ take count self.now.verdicts.items }
+        ensures dashes { result.dashes.now ≡ take count self.now.dashes.items }
+    {
+        FamilyAnswers {
+            verdicts: &self.verdicts[..count],
+            dashes: &self.dashes[..count],
+        }
     }
 }
 

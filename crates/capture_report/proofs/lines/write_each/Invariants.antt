@@ -5,6 +5,6 @@ use Rattle.capture_report.proofs.lines.write_each.Given as goal
 
 abbrev pub invariant-loop-packet : goal.invariant-loop-packet
 invariant-loop-packet g l =
-    Written l.form l.fn.counts l.counts l.packets (drop l.packet-index l.packets) l.ip4 l.ip6
-    l.ip4_dashes l.ip6_dashes l.number l.at
+    Written l.form l.fn.counts l.counts l.packets (drop l.packet-index l.packets) l.ip4.verdicts.now
+    l.ip6.verdicts.now l.ip4.dashes.now l.ip6.dashes.now l.line l.at
     (length l.fn.lines) l.lines
