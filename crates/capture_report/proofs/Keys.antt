@@ -234,6 +234,33 @@ number_bound family (p ∷ ps) = go (is_of family p.class) refl (number_bound fa
     go true own later = rw own (omega (arith, later))
     go false own later = rw own (omega (arith, later))
 
+-- no frame has packets of both families
+pub numbers_bound : (packets : List FrameClass) →
+    number_of family.Ip4 packets + number_of family.Ip6 packets ≤ length packets
+numbers_bound [] = omega arith
+numbers_bound (p ∷ ps) = go p.class refl (numbers_bound ps)
+  where
+    go : (class : Class) → p.class ≡ class →
+        number_of family.Ip4 ps + number_of family.Ip6 ps ≤ length ps →
+        number_of family.Ip4 (p ∷ ps) + number_of family.Ip6 (p ∷ ps) ≤ length (p ∷ ps)
+    go Ip4 is later = rw is (omega (arith, later))
+    go Ip6 is later = rw is (omega (arith, later))
+    go Other is later = rw is (omega (arith, later))
+    go Short is later = rw is (omega (arith, later))
+
+-- no packet of a family has no key
+pub no_keys : (family : Family) (packets : List FrameClass) → number_of family packets ≡ 0 →
+    keys_of family packets ≡ []
+no_keys family [] none = refl
+no_keys family (p ∷ ps) none = go (is_of family p.class) refl (no_keys family ps) none
+  where
+    go : (own : Bool) → is_of family p.class ≡ own → (number_of family ps ≡ 0 → keys_of family ps ≡ []) →
+        number_of family (p ∷ ps) ≡ 0 → keys_of family (p ∷ ps) ≡ []
+    go true own later none =
+        let some : number_of family ps + 1 ≡ 0 = rw own at none in
+        absurd (omega (arith, some))
+    go false own later none = rw own (later (rw own at none))
+
 -- a key has some bytes, and at most those of IPv6
 pub some_bytes : (family : Family) (len : ℕ) → len ≡ key_len_of_family family → 0 < len
 some_bytes family.Ip4 len is = omega (arith, is)

@@ -79,15 +79,18 @@ fn put_lines<O: Sink, L: Ledger>(
     ensures bound { transitions.new ≤ counts.new.packets * (2 * max_transitions) }
     ensures steps { steps.new ≡ steps.old + transitions_of_packets form.now.tables room.old }
 {
-    let packets = room.packets.as_slice();
+    let batch = room.packets.as_slice();
     let (keys, rows) = (&mut room.keys, &mut room.scratch);
-    let (given, marks) = (&mut room.ip4.verdicts, &mut room.ip4.dashes);
-    let ip4 = walk_keys(form, Family::Ip4, packets, keys, rows, given, marks, steps);
-    let (given, marks) = (&mut room.ip6.verdicts, &mut room.ip6.dashes);
-    let ip6 = walk_keys(form, Family::Ip6, packets, keys, rows, given, marks, steps);
+    let all = batch.len();
+    let (to, marks) = (&mut room.ip4.verdicts, &mut room.ip4.dashes);
+    let ip4 = walk_keys(form, Family::Ip4, batch, all, keys, rows, to, marks, steps);
+    // A packet of one family is none of the other.
+    let rest = all - ip4.packets;
+    let (to, marks) = (&mut room.ip6.verdicts, &mut room.ip6.dashes);
+    let ip6 = walk_keys(form, Family::Ip6, batch, rest, keys, rows, to, marks, steps);
     *transitions += ip4.transitions + ip6.transitions;
     let (ip4, ip6) = (room.ip4.first(ip4.verdicts), room.ip6.first(ip6.verdicts));
-    let len = write_lines(form, packets, ip4, ip6, counts, &mut room.lines);
+    let len = write_lines(form, batch, ip4, ip6, counts, &mut room.lines);
     put_all(out, &room.lines[..len])
 }
 

@@ -32,6 +32,8 @@ pub const BATCH_VERDICTS: usize = MAX_BATCH * MAX_VERDICTS;
 /// What the walks of the keys of a family came to.
 #[derive(Clone, Copy)]
 pub struct FamilyVerdicts {
+    /// How many packets are of the family.
+    pub packets: usize,
     /// How many verdicts were written.
     pub verdicts: usize,
     /// How many transitions the walks took.
@@ -42,14 +44,16 @@ pub struct FamilyVerdicts {
 /// front of `verdicts`, those of one packet after those of another. Where the form asks for marks,
 /// the same walk says which dashes are shown, in the same places of `dashes`.
 ///
-/// There are at most 64 packets. `keys` has room for their keys, [`BATCH_KEYS`] bytes, and
-/// `scratch` has a row for each, which are overwritten; `verdicts` and `dashes` have
-/// [`BATCH_VERDICTS`] elements. Whichever walk the form asks for, the verdicts, the dashes and the
-/// transitions are the same. It takes no memory.
+/// There are at most 64 packets, and at most `most` are of the family: where that is 0, none is
+/// looked at. `keys` has room for their keys, [`BATCH_KEYS`] bytes, and `scratch` has a row for
+/// each, which are overwritten; `verdicts` and `dashes` have [`BATCH_VERDICTS`] elements. Whichever
+/// walk the form asks for, the verdicts, the dashes and the transitions are the same. It takes no
+/// memory.
 pub fn walk_keys<L: Ledger>(
     form: &FormByTables<'_>,
     family: Family,
     packets: &[Packet],
+    most: usize,
     keys: &mut [u8],
     scratch: &mut Scratch,
     verdicts: &mut [u32],
@@ -58,10 +62,12 @@ pub fn walk_keys<L: Ledger>(
 ) -> FamilyVerdicts
     requires few { length packets.now ≤ max_batch }
     requires packets { All IsPacket packets.now }
+    requires most { number_of family packets.now ≤ most }
     requires keys { BATCH_KEYS ≤ length keys.old }
     requires rows { max_batch ≤ length scratch.old }
     requires verdicts { length verdicts.old ≡ BATCH_VERDICTS }
     requires dashes { length dashes.old ≡ BATCH_VERDICTS }
+    ensures packets { result.packets ≡ number_of family packets.now }
     ensures within { result.verdicts ≤ BATCH_VERDICTS }
     ensures verdicts { take result.verdicts verdicts.new ≡ verdicts_of family
         (table_of family form.now.tables) form.now.categories packets.now }
@@ -70,20 +76,17 @@ pub fn walk_keys<L: Ledger>(
         ≡ transitions_of_family family (table_of family form.now.tables) packets.now }
     ensures bound { result.transitions ≤ length packets.now * max_transitions }
     ensures steps { steps.new ≡ steps.old + result.transitions }
-    ensures len { length verdicts.new ≡ BATCH_VERDICTS }
-    ensures marks_len { length dashes.new ≡ BATCH_VERDICTS }
     ensures keys { length keys.new ≡ length keys.old }
     ensures rows { length scratch.new ≡ length scratch.old }
 {
     let (table, categories) = (form.table(family), form.categories());
-    let gathered = gather_keys(family, packets, keys);
-    let count = gathered.packets * categories.count();
-    let keys = &keys[..gathered.bytes];
+    let own = gather_keys(family, packets, most, keys);
+    let count = own.packets * categories.count();
     let (out, marks) = (&mut verdicts[..count], &mut dashes[..count]);
-    let transitions = classify(form, table, keys, scratch, out, marks, steps);
     FamilyVerdicts {
+        packets: own.packets,
         verdicts: count,
-        transitions,
+        transitions: classify(form, table, &keys[..own.bytes], scratch, out, marks, steps),
     }
 }
 
@@ -134,10 +137,12 @@ struct Gathered {
     bytes: usize,
 }
 
-/// Writes the keys of the packets of a family to the front of `keys`, one after the other.
-fn gather_keys(family: Family, packets: &[Packet], keys: &mut [u8]) -> Gathered
+/// Writes the keys of the packets of a family, of which there are so many at most, to the front of
+/// `keys`, one after the other.
+fn gather_keys(family: Family, packets: &[Packet], most: usize, keys: &mut [u8]) -> Gathered
     requires few { length packets.now ≤ max_batch }
     requires packets { All IsPacket packets.now }
+    requires most { number_of family packets.now ≤ most }
     requires room { BATCH_KEYS ≤ length keys.old }
     ensures count { result.packets ≡ number_of family packets.now }
     ensures few { result.packets ≤ length packets.now }
@@ -145,6 +150,13 @@ fn gather_keys(family: Family, packets: &[Packet], keys: &mut [u8]) -> Gathered
     ensures keys { take result.bytes keys.new ≡ keys_of family packets.now }
     ensures len { length keys.new ≡ length keys.old }
 {
+    // In most captures all packets are of one family, and the other has nothing to gather.
+    if most == 0 {
+        return Gathered {
+            packets: 0,
+            bytes: 0,
+        };
+    }
     // Each family has a call of its own, in which the length of a key is settled.
     match family {
         Family::Ip4 => gather_each(Family::Ip4, packets, keys),
