@@ -54,7 +54,8 @@ module _ (set : RuleSetView) (group : List ℕ) (its : IsGrouped set group) wher
 
   -- the states before the next place are what is found at this one
   next_lists : (place : ℕ) → place < length kept
-      → lists_before set group kept (place + 1) ≡ level_found set (at_place place) false (lists_before set group kept place)
+      → lists_before set group kept (place + 1)
+      ≡ level_found set (at_place place) false (lists_before set group kept place)
   unfolding lists_before
   next_lists place below =
       rw (take_more kept place 0 below)
@@ -268,7 +269,8 @@ module _ (set : RuleSetView) (group : List ℕ) (its : IsGrouped set group) wher
       -- or too many words
       pub probed_over : ((pairs : List (ℕ × ℕ)) → target ≡ Parts pairs → (g : List ℕ) (tree : RuleTree)
           (lists : List (List ℕ)) → ArePlaced set g tree pairs lists (take budget.states numbers)
-          → budget.cap < least_words set (at_place place) (next_of set kept place) (place + 1 == length kept) words lists)
+          → budget.cap
+          < least_words set (at_place place) (next_of set kept place) (place + 1 == length kept) words lists)
           → budget.cap < (levels_of set group).words
       unfolding levels_of
       probed_over over =

@@ -231,9 +231,9 @@ impl Levels {
     ///
     /// The group has places of rules of the set, ascending, and at least one; the cap is at most
     /// [`table_sizes::MAX_WORDS`]. `OverCap` comes exactly where the words exceed the cap, unless
-    /// memory ran out before that was known. It takes memory for the parts of two places, for the
-    /// runs and for the rows, and gives it back after a refusal. Source: DPDK Programmer's Guide,
-    /// "Packet Classification and Access Control", and `lib/acl`, `acl_bld.c`.
+    /// memory ran out before that was known. It takes memory for the parts of two or three places,
+    /// for the runs and for the rows, and gives it back after a refusal. Source: DPDK Programmer's
+    /// Guide, "Packet Classification and Access Control", and `lib/acl`, `acl_bld.c`.
     pub fn build(
         alloc: Global,
         rules: &RuleSet,

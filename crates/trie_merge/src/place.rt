@@ -87,7 +87,8 @@ pub(crate) fn first_of(numbers: &[u32], most: usize) -> (&[u32], &[u32])
 }
 
 /// Merges the first states of the kept place of that number, as many as the budget has. `ahead` is
-/// what the place has of each rule, where that was looked up before, and then what the next one has.
+/// what the place has of each rule, where that was looked up before, and then what the next one
+/// has.
 pub(crate) fn merge_place(
     alloc: Global,
     rules: &RuleSet,

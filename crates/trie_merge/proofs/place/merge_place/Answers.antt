@@ -12,7 +12,8 @@ merge_states-requires c =
     let place = c.in_ok-place.ensures in
     record {
       numbers = rw (c.first_of.ensures.first, c.as_slice.ensures.keys)
-          (All-take (λ number. IsNumber (Parts c.parts-parts.result.now) number) c.args.budget.states c.args.reached.now.found.keys
+          (All-take (λ number. IsNumber (Parts c.parts-parts.result.now) number) c.args.budget.states
+          c.args.reached.now.found.keys
           (subst (λ target. AreNumbers target c.args.reached.now.found.keys) c.parts-parts.ensures
           c.requires.states.inside));
       can = record {
@@ -37,7 +38,8 @@ returns-in-Ok-clause-merged c =
     record {
       states = λ pairs is.
           (let same : c.parts-parts.result.now ≡ pairs = cc in
-          let each = rw (c.first_of.ensures.first, c.as_slice.ensures.keys, place.column, place.is_last, same) at its.each in
+          let each = rw (c.first_of.ensures.first, c.as_slice.ensures.keys, place.column, place.is_last, same) at
+          its.each in
           record {
             old = c.in_ok-target.target;
             kind = kind;
