@@ -71,10 +71,17 @@ def first(draw, family):
                                              draw.choice(["ipv4", "ipv6"]))] * (family == "inet"))
 
 
-def verdict(draw, later):
+def answer(draw, family):
+    """A rejection, with an answer that packets of a table may get."""
+    kinds = {"ip": ["tcp reset", "icmp"], "ip6": ["tcp reset", "icmpv6"], "inet": ["icmp", "icmpv6", "icmpx"]}
+    kind = draw.choice(kinds[family])
+    return {"reject": {"type": kind, **({} if kind == "tcp reset" else {"expr": "admin-prohibited"})}}
+
+
+def verdict(draw, family, later):
     """The statements at a rule's end."""
     choices = [{"accept": None}, {"drop": None}, {"return": None}, {"counter": {"packets": 0, "bytes": 0}},
-               {"log": {"prefix": "seen "}}]
+               {"log": {"prefix": "seen "}}, answer(draw, family)]
     choices += [{"jump": {"target": draw.choice(later)}}, {"goto": {"target": draw.choice(later)}}] * 2 if later else []
     one = draw.choice(choices)
     return [one] if draw.random() < 0.7 or "log" in one else [{"log": {"prefix": "x "}}, one]
@@ -84,14 +91,14 @@ def expression(draw, family, later):
     """The statements of a rule."""
     network, transport = family if family != "inet" else draw.choice(["ip", "ip6"]), draw.choice(["tcp", "udp"])
     if draw.random() < 0.1:
-        return [first(draw, family)] + verdict(draw, later)
+        return [first(draw, family)] + verdict(draw, family, later)
     found = [draw.choice([address, address, port, port, pair, other])(draw, network, transport)
              for _ in range(draw.randrange(3))]
     if draw.random() < 0.2 and transport == "tcp":
         pairs = [[22, {"drop": None}], [{"range": [80, 90]}, {"accept": None}]]
         pairs += [[443, {"jump": {"target": draw.choice(later)}}]] if later else []
         return found + [{"vmap": {"key": payload("tcp", "dport"), "data": draw.choice([{"set": pairs}, "@services"])}}]
-    return found + verdict(draw, later)
+    return found + verdict(draw, family, later)
 
 
 def drawn_objects(draw, hook):

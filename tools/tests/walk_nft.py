@@ -161,11 +161,19 @@ class Judge:
                     verdict = self.of_map(said, key, fields)
                 else:
                     require(name in (*QUIET, *ENDING, "jump", "goto"), name)
+                    if name == "reject" and not self.can_answer(said, fields):
+                        return None, None
                     if name not in QUIET:
                         verdict = name, said.get("target") if said else None
         except Missing:
             return None, None
         return verdict
+
+    def can_answer(self, said, fields):
+        """Whether a packet is one to which the answer of reject is sent."""
+        kind = said["type"] if said else "icmpx"
+        require(kind in ("tcp reset", "icmp", "icmpv6", "icmpx"), kind)
+        return {"tcp reset": fields[4] == 6, "icmp": fields[0] == 4, "icmpv6": fields[0] == 6}.get(kind, True)
 
     def of_map(self, said, key, fields):
         """The verdict of the element that a packet is of, the one for all others last."""
