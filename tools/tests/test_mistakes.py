@@ -9,7 +9,7 @@ import unittest
 from pathlib import Path
 
 import mistakes
-from aclc_tools import blocks, capture, keys
+from aclc_tools import blocks, capture, keys, list_program
 from aclc_tools.program import TOP, built_program, run
 from tool import BUILT, EXAMPLES
 
@@ -32,7 +32,7 @@ def tried():
              for it in mistakes.RULES + mistakes.CAPTURES + mistakes.WORDS + mistakes.LARGE]
     kinds += [(kind, title) for kind, title, _ in mistakes.FILES] + [("read fault", mistakes.CLOSED)]
     alone = [it[1] for it in mistakes.IMAGES] + [it[0] for it in mistakes.REPLIES + mistakes.WARNED
-                                                 + mistakes.SURPRISES]
+                                                 + mistakes.SURPRISES + mistakes.LISTS]
     alone += [it[2] for it in mistakes.OTHERS if it[2]]
     alone += [mistakes.ALL_BAD, mistakes.LONG, mistakes.MANY, mistakes.MEMORY, mistakes.NAME, mistakes.STACK,
               mistakes.SCRIPT,
@@ -57,6 +57,16 @@ class Page(unittest.TestCase):
                             (kind, title))
         for title in alone:
             self.assertTrue([text for _, text in listed if text.startswith(f"{title}: ")], title)
+
+
+class Lists(unittest.TestCase):
+    @unittest.skipUnless(list_program.built_list_program(), "the program aclc-lists isn't built")
+    def test_lists_of_iptables(self):
+        for _, lines, said in mistakes.LISTS:
+            done = subprocess.run([list_program.built_list_program(), "iptables", "/dev/stdin", "INPUT"],
+                                  input=lines.encode(), stdout=subprocess.PIPE, stderr=subprocess.PIPE)
+            self.assertEqual((done.returncode, done.stdout, done.stderr.decode()),
+                             (3, b"", f"aclc-lists: list: {said}\n"))
 
 
 @BUILT
