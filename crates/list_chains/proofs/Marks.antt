@@ -1,5 +1,5 @@
 -- The marks of chains settle: in as many turns as there are chains all are marked that ever are.
-use Rattle.std.proofs.Common.{◌≡◌, ℕ, zero, suc, ◌<◌, ◌≤◌, List, [], ◌∷◌, length, map, Bool, true, false, ◌⊎◌, inl, inr}
+use Rattle.std.proofs.Common.{◌≡◌, ℕ, zero, suc, ◌+◌, ◌-◌, ◌<◌, ◌≤◌, List, [], ◌∷◌, length, map, Bool, true, false, ◌⊎◌, inl, inr}
 use Rattle.std.proofs.Common.{refl, sym, ap, ◌∙◌, arith, ⊎_elim}
 use Rattle.std.specs.Option.{option_map_or}
 use Rattle.std.specs.List.{list_all}
@@ -149,3 +149,17 @@ pub bad_chains : (chains : Chains) (place : ℕ) → place < length chains → a
     → list_all (leads_well (ending chains)) (at_or chains place []) ≡ false
 bad_chains [] place there e = absurd (omega (arith, there))
 bad_chains (chain ∷ chains) place there e = bad_by (chain ∷ chains) (length chains) place refl there e
+
+-- a turn that changes no mark is the last that could: so many turns more change none either
+unchanged : (chains : Chains) (turns more all : ℕ) → all ≡ more + turns
+    → shallow (suc turns) chains ≡ shallow turns chains → shallow all chains ≡ shallow turns chains
+unchanged chains turns zero all is same = ap (λ n. shallow n chains) (omega (arith, is))
+unchanged chains turns (suc more) all is same =
+    let next : all ≡ suc (more + turns) = omega (arith, is) in
+    ap (λ n. shallow n chains) next ∙ ap (turn chains) (unchanged chains turns more (more + turns) refl same) ∙ same
+
+-- so they are those of all turns
+pub last_turn : (chains : Chains) (turns : ℕ) → turns < length chains
+    → shallow (suc turns) chains ≡ shallow turns chains → shallow (suc turns) chains ≡ ending chains
+last_turn chains turns few same =
+    same ∙ sym (unchanged chains turns (length chains - turns) (length chains) (omega (arith, few)) same)

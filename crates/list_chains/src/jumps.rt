@@ -1,6 +1,6 @@
 //! Whether jumps come to an end, and the rule at which they don't.
 
-ghost use Rattle.std.specs.Prelude.{◌≡◌, ◌<◌, [], length, map, false, IfOk};
+ghost use Rattle.std.specs.Prelude.{◌≡◌, ◌<◌, [], length, map, false, true, IfOk};
 ghost use Rattle.std.specs.List.{list_all};
 ghost use Rattle.list_chains.specs.Chains.{at_or};
 ghost use Rattle.list_chains.specs.Jumps.{bad_chain, bad_rule, ending, leads_well, led_to, way};
@@ -10,14 +10,28 @@ use crate::fault::{ChainsFault, RulePlace};
 use std::alloc::{AllocError, Global};
 
 /// For each chain whether jumps from it come to an end. It takes the memory of two marks a chain.
+///
+/// A turn that marks no chain more is the last one: each turn after it would mark the same. So there
+/// are hardly more turns than chains on the longest way, and never more than chains.
 pub(crate) fn ending(alloc: Global, chains: &[Chain]) -> Result<Vec<bool>, AllocError>
     ensures { IfOk result (λ marks. marks.items ≡ ending chains.now) }
 {
     let mut marks = Vec::new(alloc);
     for _ in 0..chains.len() {
-        marks = marked(alloc, chains, &marks)?;
+        let more = marked(alloc, chains, &marks)?;
+        if are_same(&marks, &more) {
+            return Ok(more);
+        }
+        marks = more;
     }
     Ok(marks)
+}
+
+/// Whether the marks of two turns are the same.
+fn are_same(ones: &[bool], others: &[bool]) -> bool
+    ensures { result ≡ true → ones.now ≡ others.now }
+{
+    ones == others
 }
 
 /// The chains from which each jump leads to a marked one, marked.
