@@ -1,5 +1,7 @@
 pub mod Folds
 pub mod JoinedWords
 pub mod ListLines
+pub mod NamedPlaces
 pub mod Prefixes
 pub mod Reaching
+pub mod SaidChains

@@ -6,6 +6,7 @@ pub mod Ports
 pub mod Quotes
 pub mod Assumed
 pub mod Chains
+pub mod Places
 pub mod Parts
 pub mod Addresses
 pub mod OptionValues

@@ -1,6 +1,6 @@
 -- The lines that packets of a chain may come to, by jumps from it (iptables(8), "TARGETS"): of those
 -- the first that no rule file says. In chains that no jump leads to such lines have no part.
-use Rattle.std.specs.Prelude.{ℕ, false, nat_le, if◌then◌else◌, List, [], ◌∷◌, length, map, Option, Some, None}
+use Rattle.std.specs.Prelude.{ℕ, Bool, false, not, is_some, nat_le, if◌then◌else◌, List, [], ◌∷◌, length, map, Option, Some, None}
 use Rattle.std.specs.Prelude.{Result, Ok, Err}
 use Rattle.std.proofs.Common.{zero, suc}
 use Rattle.list_chains.specs.declared.span.Span.{Span}
@@ -8,6 +8,10 @@ use Rattle.list_chains.specs.Chains.{ListRule, at_or}
 use Rattle.list_chains.specs.Jumps.{led_to}
 use Rattle.iptables_reader.specs.declared.fault.LineFault.{LineFault}
 use Rattle.iptables_reader.specs.Chains.{ListedChain, place_of}
+
+-- every line of the chain itself is said by a rule file, or does nothing
+abbrev pub is_said : ListedChain → Bool
+is_said chain = not (is_some chain.unsaid)
 
 -- the earlier of two lines, or the one that is there
 abbrev pub earlier : Option LineFault → Option LineFault → Option LineFault

@@ -1,6 +1,7 @@
 //! A chain of a table: its name, its policy and its rules.
 
-ghost use Rattle.std.specs.Prelude.{◌≡◌, ◌<◌, length, IfSome};
+ghost use Rattle.std.specs.Prelude.{◌≡◌, ◌<◌, ◌≤◌, drop, length, IfSome};
+ghost use Rattle.std.specs.List.{position_from};
 ghost use Rattle.iptables_reader.specs.Chains.{is_meant, place_of};
 
 use crate::caught::boxes_of_rule;
@@ -84,8 +85,9 @@ impl SavedChain {
         number: u32,
         reading: &Reading,
     ) -> Result<(), AllocError>
-        ensures { OnOk result (self.new
+        ensures said { OnOk result (self.new
             ≡ with_said asked assumed.now number reading.now reading.now.act self.old) }
+        ensures name { self.new.name ≡ self.old.name }
     {
         let Some(act) = reading.act else {
             return Ok(());
@@ -124,8 +126,9 @@ impl SavedChain {
         userdata: u32,
         target: Target,
     ) -> Result<(), AllocError>
-        ensures { OnOk result (self.new
+        ensures more { OnOk result (self.new
             ≡ more_rules (rules_of family assumed.now reading.now userdata target) self.old) }
+        ensures name { self.new.name ≡ self.old.name }
     {
         let caught = boxes_of_rule(alloc, family, assumed, reading)?;
         put_rules(alloc, family, &caught, userdata, target, &mut self.rules)
@@ -151,7 +154,21 @@ pub(crate) fn place_of(chains: &[SavedChain], name: &[u8], led: bool) -> Option<
     ensures place { result ≡ place_of led name.now chains.now }
     ensures within { IfSome result (λ place. place < length chains.now) }
 {
-    for place in 0..chains.len() {
+    place_from(chains, name, led, 0)
+}
+
+/// The same, where the chains before a place aren't looked at.
+pub(crate) fn place_from(
+    chains: &[SavedChain],
+    name: &[u8],
+    led: bool,
+    from: usize,
+) -> Option<usize>
+    requires { from ≤ length chains.now }
+    ensures place { result ≡ position_from (is_meant led name.now) from (drop from chains.now) }
+    ensures within { IfSome result (λ place. place < length chains.now) }
+{
+    for place in from..chains.len() {
         if is_meant(&chains[place], name, led) {
             return Some(place);
         }

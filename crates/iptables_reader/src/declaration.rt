@@ -6,8 +6,8 @@ ghost use Rattle.iptables_reader.specs.Options.{is_target};
 ghost use Rattle.iptables_reader.specs.Table.{answer_of, declaration_of, is_base, policy_named};
 ghost use Rattle.iptables_reader.specs.Table.{policy_of, verdict_answer};
 
-use crate::chain::{SavedChain, place_of};
 use crate::fault::LineKind;
+use crate::named_chains::NamedChains;
 use crate::options::{Verdict, verdict_named};
 use crate::table::{Answers, Asked};
 use crate::tables::{owner_in, targets};
@@ -18,7 +18,7 @@ use text_scan::next_word;
 pub(crate) fn declaration<'a>(
     asked: Asked,
     number: u32,
-    chains: &[SavedChain],
+    chains: &NamedChains,
     text: &'a [u8],
 ) -> Result<(&'a [u8], Option<u32>), LineKind>
     ensures { MatchResult result
@@ -38,7 +38,7 @@ pub(crate) fn declaration<'a>(
     if next_word(rest).is_some() || !is_counters(counters) || is_target(name) {
         return Err(LineKind::BadChain);
     }
-    if place_of(chains, name, false).is_some() {
+    if chains.place_of(name, false).is_some() {
         return Err(LineKind::ChainTwice);
     }
     Ok((name, policy(asked, number, name, word)?))

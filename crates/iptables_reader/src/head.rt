@@ -4,13 +4,13 @@ ghost use Rattle.std.specs.Prelude.{◌≡◌, ◌<◌, length, IfOk, MatchResul
 ghost use Rattle.text_scan.specs.Parts.{words_of};
 ghost use Rattle.iptables_reader.specs.Reading.{after_counters, head_of};
 
-use crate::chain::{SavedChain, place_of};
 use crate::fault::LineKind;
+use crate::named_chains::NamedChains;
 use crate::values::is_counters;
 use text_scan::next_word;
 
 /// The place of a rule's chain, and the text after its name.
-pub(crate) fn head<'a>(chains: &[SavedChain], line: &'a [u8]) -> Result<(usize, &'a [u8]), LineKind>
+pub(crate) fn head<'a>(chains: &NamedChains, line: &'a [u8]) -> Result<(usize, &'a [u8]), LineKind>
     ensures head { MatchResult result
         (λ read. head_of chains.now (words_of line.now)
         ≡ Ok (record { chain = read.0; words = words_of read.1.now }))
@@ -26,7 +26,7 @@ pub(crate) fn head<'a>(chains: &[SavedChain], line: &'a [u8]) -> Result<(usize, 
     let Some((name, rest)) = next_word(rest) else {
         return Err(LineKind::MissingWord);
     };
-    match place_of(chains, name, false) {
+    match chains.place_of(name, false) {
         Some(place) => Ok((place, rest)),
         None => Err(LineKind::NoChain),
     }

@@ -19,6 +19,7 @@
 //! | `address_spans` | sets of addresses as spans |
 //! | `packets`, `caught` | what a rule catches, as boxes of packets |
 //! | `chain` | a chain: its name, its policy and its rules |
+//! | `places`, `named_chains` | chains, found by their names |
 //! | `declaration` | lines that declare chains |
 //! | `table` | a list, line by line, and its chains |
 //! | `reached` | the lines that packets of a chain may come to |
@@ -37,11 +38,13 @@ mod declaration;
 mod fault;
 mod head;
 pub mod laws;
+mod named_chains;
 mod option_addresses;
 mod option_values;
 mod options;
 mod packets;
 mod parts;
+mod places;
 mod ports;
 mod quotes;
 mod reached;

@@ -8,8 +8,8 @@ ghost use Rattle.iptables_reader.specs.Ports.{comma};
 use crate::assumed::{
     are_states, assumed_state, has_state, is_interface, meets_interface, value_in,
 };
-use crate::chain::{SavedChain, place_of};
 use crate::fault::LineKind;
+use crate::named_chains::NamedChains;
 use crate::options::{
     Match, RuleOption, Side, Way, is_ip4_answer, is_ip6_answer, match_named, verdict_named,
 };
@@ -31,7 +31,7 @@ impl Reading {
         self,
         family: Family,
         assumed: &[u8],
-        chains: &[SavedChain],
+        chains: &NamedChains,
         option: RuleOption,
         word: &[u8],
     ) -> Result<Reading, LineKind>
@@ -263,7 +263,7 @@ impl Reading {
     }
 
     /// A target: a verdict, one that passes packets on, or a chain that rules lead to.
-    fn with_jump(self, chains: &[SavedChain], word: &[u8]) -> Result<Reading, LineKind>
+    fn with_jump(self, chains: &NamedChains, word: &[u8]) -> Result<Reading, LineKind>
         ensures { result ≡ values.with_jump chains.now self word.now }
     {
         if let Some(verdict) = verdict_named(word) {
@@ -272,17 +272,17 @@ impl Reading {
         if let Some(place) = owner_in(targets(), word) {
             return Ok(self.with_act(Act::Pass, Rows::Target(place)));
         }
-        match place_of(chains, word, true) {
+        match chains.place_of(word, true) {
             Some(place) => Ok(self.with_act(Act::Jump(place), Rows::Nothing)),
             None => Err(LineKind::BadTarget),
         }
     }
 
     /// A chain from which packets don't come back.
-    fn with_go(self, chains: &[SavedChain], word: &[u8]) -> Result<Reading, LineKind>
+    fn with_go(self, chains: &NamedChains, word: &[u8]) -> Result<Reading, LineKind>
         ensures { result ≡ values.with_go chains.now self word.now }
     {
-        match place_of(chains, word, true) {
+        match chains.place_of(word, true) {
             Some(place) => Ok(self.with_act(Act::Go(place), Rows::Nothing)),
             None => Err(LineKind::BadTarget),
         }

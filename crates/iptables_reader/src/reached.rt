@@ -1,9 +1,10 @@
 //! The lines that packets of a chain may come to: of those the first that no rule file says.
 
 ghost use Rattle.std.specs.Prelude.{◌≡◌, length, map, IfOk, None};
+ghost use Rattle.std.specs.List.{list_all};
 ghost use Rattle.list_chains.specs.Chains.{at_or};
-ghost use Rattle.iptables_reader.specs.Reached.{chain_unsaid, earlier, line_led_to, unsaid_from};
-ghost use Rattle.iptables_reader.specs.Reached.{unsaid_within};
+ghost use Rattle.iptables_reader.specs.Reached.{chain_unsaid, earlier, is_said, line_led_to};
+ghost use Rattle.iptables_reader.specs.Reached.{unsaid_from, unsaid_within};
 
 use crate::chain::{SavedChain, place_of};
 use crate::fault::LineFault;
@@ -19,6 +20,9 @@ pub(crate) fn unsaid_from(
 ) -> Result<Option<LineFault>, AllocError>
     ensures { IfOk result (λ line. line ≡ unsaid_from name.now chains.now) }
 {
+    if are_said(chains) {
+        return Ok(None);
+    }
     match place_of(chains, name, false) {
         Some(place) => {
             let lines = unsaid_lines(alloc, chains)?;
@@ -26,6 +30,20 @@ pub(crate) fn unsaid_from(
         }
         None => Ok(None),
     }
+}
+
+/// Whether no chain has a line that no rule file says.
+fn are_said(chains: &[SavedChain]) -> bool
+    ensures { result ≡ list_all is_said chains.now }
+{
+    chains.iter().all(|chain| is_said(chain))
+}
+
+/// Whether a chain has no such line.
+fn is_said(chain: &SavedChain) -> bool
+    ensures { result ≡ is_said chain.now }
+{
+    chain.unsaid().is_none()
 }
 
 /// For each chain the first line that no rule file says, of itself and those that jumps lead to.

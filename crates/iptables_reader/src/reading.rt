@@ -8,8 +8,8 @@ ghost use Rattle.std.specs.Prelude.{◌≡◌};
 ghost use Rattle.text_scan.specs.Parts.{words_of};
 ghost use Rattle.iptables_reader.specs.Reading as reading;
 
-use crate::chain::SavedChain;
 use crate::fault::LineKind;
+use crate::named_chains::NamedChains;
 use crate::options::{RuleOption, Verdict, Way, base_option, may_be_negated, own_option};
 use crate::parts::{Act, Next, Reading, Rows};
 use crate::quotes::{Quotes, first_quotes, quotes_after};
@@ -258,7 +258,7 @@ impl Reading {
         self,
         family: Family,
         assumed: &[u8],
-        chains: &[SavedChain],
+        chains: &NamedChains,
         word: &[u8],
     ) -> Result<Reading, LineKind>
         ensures { result ≡ reading.with_word family assumed.now chains.now self self.next word.now }
@@ -290,7 +290,7 @@ impl Reading {
 pub(crate) fn options(
     family: Family,
     assumed: &[u8],
-    chains: &[SavedChain],
+    chains: &NamedChains,
     chain: &[u8],
     text: &[u8],
 ) -> Result<Reading, LineKind>

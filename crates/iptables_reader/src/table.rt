@@ -13,6 +13,7 @@ use crate::chain::{SavedChain, place_of};
 use crate::declaration::{answer_of, declaration};
 use crate::fault::{IptablesFault, LineFault, LineKind, Stop};
 use crate::head::head;
+use crate::named_chains::NamedChains;
 use crate::options::Verdict;
 use crate::parts::{Act, Reading};
 use crate::reached::unsaid_from;
@@ -61,7 +62,7 @@ pub(crate) enum Stage {
 #[derive(Drop)]
 pub(crate) struct Table {
     stage: Stage,
-    chains: Vec<SavedChain>,
+    chains: NamedChains,
 }
 
 impl Model for Table {
@@ -69,7 +70,7 @@ impl Model for Table {
 
     ghost Value = { TableSoFar };
 
-    ghost view = { λ table. record { stage = table.stage; chains = table.chains.items } };
+    ghost view = { λ table. record { stage = table.stage; chains = table.chains } };
 }
 
 impl Table {
@@ -84,7 +85,7 @@ impl Table {
     {
         Table {
             stage: Stage::Before,
-            chains: Vec::new(alloc),
+            chains: NamedChains::new(alloc),
         }
     }
 
@@ -95,7 +96,7 @@ impl Table {
             (λ fault. table.ended number self self.stage ≡ Err fault) }
     {
         match self.stage {
-            Stage::After => Ok(self.chains),
+            Stage::After => Ok(self.chains.into_chains()),
             Stage::Before | Stage::Declaring | Stage::Ruling => Err(LineFault {
                 line: number,
                 kind: LineKind::NoCommit,
@@ -159,10 +160,7 @@ impl Table {
         ensures { OnOk result
             (self.new ≡ table.with_chain self.old (record { name = name.now; policy = policy })) }
     {
-        let mut kept = Vec::new(alloc);
-        kept.extend_from_slice(name)?;
-        self.chains.push(SavedChain::new(alloc, kept, policy))?;
-        Ok(())
+        self.chains.push(alloc, name, policy)
     }
 
     /// A line of a rule.
@@ -203,7 +201,7 @@ impl Table {
             (Refuses
             (table.with_options asked assumed.now number self.old place (words_of text.now))) }
     {
-        let chain = self.chains[place].name();
+        let chain = self.chains.name(place);
         match options(asked.family, assumed, &self.chains, chain, text) {
             Ok(reading) => {
                 self.put(alloc, asked, assumed, number, place, &reading)?;
@@ -228,7 +226,8 @@ impl Table {
             (self.new ≡ table.with_reading asked assumed.now number self.old place reading.now) }
     {
         self.stage = Stage::Ruling;
-        self.chains[place].add_line(alloc, asked, assumed, number, reading)
+        self.chains
+            .add_line(alloc, asked, assumed, number, place, reading)
     }
 }
 
