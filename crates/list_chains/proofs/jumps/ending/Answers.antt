@@ -11,7 +11,7 @@ returns-then-are_same c =
     let turns = c.loop.counter in
     let before : c.deref.result.now ≡ shallow turns chains = cc in
     let made : c.in_ok-more.more.items ≡ shallow (suc turns) chains =
-        c.in_ok-more.ensures ∙ ap (λ marks. map (list_all (leads_well marks)) chains) before in
+    c.in_ok-more.ensures ∙ ap (λ marks. map (list_all (leads_well marks)) chains) before in
     let told = c.are_same.ensures c.if-are_same.true in
     let same : c.in_ok-more.more.items ≡ shallow turns chains = cc in
     made ∙ last_turn chains turns (omega (arith, c.loop-test.true)) (sym made ∙ same)
