@@ -109,7 +109,8 @@ lookup_more test (entry ∷ names) name place = elim (cases_Bool (test entry.0))
 
 -- an element more
 position_more : {A : Type 0} (test : A → Bool) (i : ℕ) (xs : List A) (x : A)
-    → position_from test i (xs ++ x ∷ []) ≡ or_answer (position_from test i xs) (cond (test x) (Some (i + length xs)) None)
+    → position_from test i (xs ++ x ∷ [])
+    ≡ or_answer (position_from test i xs) (cond (test x) (Some (i + length xs)) None)
 position_more test i [] x = ap (λ n. cond (test x) (Some n) None) (omega arith)
 position_more test i (y ∷ ys) x = elim (cases_Bool (test y)) [
   | inl e ↦ rw e refl
@@ -136,18 +137,18 @@ or_none None = refl
 or_none (Some place) = refl
 
 -- no chains have no names
-pub ArePlaces-none : ArePlaces [] []
-ArePlaces-none = record { found = λ name. refl }
-
-module _ (names : List (List ℕ × ℕ)) (chains : List ListedChain) (are : ArePlaces names chains) (chain : ListedChain) where
+module _ (names : List (List ℕ × ℕ)) (chains : List ListedChain) (are : ArePlaces names chains)
+    (chain : ListedChain) where
   -- what is found with one chain more
   more_found : (name : List ℕ) → place_of false name (chains ++ chain ∷ [])
       ≡ or_answer (lookup (bytes_eq name) names) (cond (bytes_eq name chain.name) (Some (length chains)) None)
   more_found name =
       let count : 0 + length chains ≡ length chains = omega arith in
       position_more (is_meant false name) 0 chains chain
-      ∙ ap (λ found. or_answer found (cond (is_meant false name chain) (Some (0 + length chains)) None)) (sym (are.found name))
-      ∙ ap (λ b. or_answer (lookup (bytes_eq name) names) (cond b (Some (0 + length chains)) None)) (has_name name chain)
+      ∙ ap (λ found. or_answer found (cond (is_meant false name chain) (Some (0 + length chains)) None))
+      (sym (are.found name))
+      ∙ ap (λ b. or_answer (lookup (bytes_eq name) names) (cond b (Some (0 + length chains)) None))
+      (has_name name chain)
       ∙ ap (λ n. or_answer (lookup (bytes_eq name) names) (cond (bytes_eq name chain.name) (Some n) None)) count
 
   -- its name is there already
@@ -229,7 +230,9 @@ insert_last (entry ∷ entries) name_of key place none = elim (cases_Bool (bytes
       sym (ap (λ b. cond b (Some entry.1) (lookup (bytes_eq (name_of key)) (names_of entries name_of))) e) ∙ none in
       cc)
   | inr e ↦ (
-      let rest = sym (ap (λ b. cond b (Some entry.1) (lookup (bytes_eq (name_of key)) (names_of entries name_of))) e) ∙ none in
+      let rest =
+      sym (ap (λ b. cond b (Some entry.1) (lookup (bytes_eq (name_of key)) (names_of entries name_of))) e)
+      ∙ none in
       rw e (ap (λ names. (name_of entry.0, entry.1) ∷ names) (insert_last entries name_of key place rest)))
 ]
 

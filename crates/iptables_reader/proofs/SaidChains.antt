@@ -36,7 +36,8 @@ chains_none : (lines : List (Option LineFault)) → AreNone lines → (chains : 
     → list_all is_said chains ≡ true → AreNone (map (chain_unsaid lines) chains)
 chains_none lines none [] all place = refl
 chains_none lines none (chain ∷ chains) all zero =
-    ap (λ line. earliest lines line chain.rules) (own_none chain.unsaid (and_parts (is_said chain) (list_all is_said chains) all).0)
+    ap (λ line. earliest lines line chain.rules)
+    (own_none chain.unsaid (and_parts (is_said chain) (list_all is_said chains) all).0)
     ∙ rules_none lines none chain.rules
 chains_none lines none (chain ∷ chains) all (suc place) =
     chains_none lines none chains (and_parts (is_said chain) (list_all is_said chains) all).1 place

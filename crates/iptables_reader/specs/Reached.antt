@@ -1,6 +1,7 @@
--- The lines that packets of a chain may come to, by jumps from it (iptables(8), "TARGETS"): of those
--- the first that no rule file says. In chains that no jump leads to such lines have no part.
-use Rattle.std.specs.Prelude.{ℕ, Bool, false, not, is_some, nat_le, if◌then◌else◌, List, [], ◌∷◌, length, map, Option, Some, None}
+-- The lines that packets of a chain may come to, by jumps from it (iptables(8), "TARGETS"): of
+-- these the first that no rule file says. In chains that no jump leads to such lines have no part.
+use Rattle.std.specs.Prelude.{ℕ, Bool, false, not, is_some, nat_le, if◌then◌else◌, List, [], ◌∷◌}
+use Rattle.std.specs.Prelude.{length, map, Option, Some, None}
 use Rattle.std.specs.Prelude.{Result, Ok, Err}
 use Rattle.std.proofs.Common.{zero, suc}
 use Rattle.list_chains.specs.declared.span.Span.{Span}

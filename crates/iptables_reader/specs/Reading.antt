@@ -273,8 +273,8 @@ passes (Some (act.Go place)) = false
 abbrev pub idle : Reading → Reading
 idle reading = record reading { act = None }
 
--- What is read of a rule, if its line may end; it may not after `!`. A rule does nothing if it passes
--- packets on, or if none has what it matches.
+-- What is read of a rule, if its line may end; it may not after `!`. A rule does nothing if it
+-- passes packets on, or if none has what it matches.
 abbrev pub finished : Reading → Result Reading LineKind
 finished reading =
     if not (may_end reading.next) || reading.negated then Err MissingWord

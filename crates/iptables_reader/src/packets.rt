@@ -216,7 +216,8 @@ fn put_ends(
     end: End,
     addresses: &[AddressSpans],
 ) -> Result<(), AllocError>
-    ensures { OnOk result (into.new.items ≡ into.old.items ++ map (with_end all end) addresses.now) }
+    ensures { OnOk result
+        (into.new.items ≡ into.old.items ++ map (with_end all end) addresses.now) }
 {
     for spans in addresses {
         into.push(with_end(all, end, *spans))?;

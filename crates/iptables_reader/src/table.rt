@@ -352,7 +352,7 @@ pub(crate) fn act_target(act: Act) -> Target
 /// `Line` comes exactly where the file is too long (line 0), some line is faulty (the first one,
 /// with its first fault), the table doesn't end (the last line), or no rule file says a line that
 /// packets of `name` may come to (the first one), as long as memory lasts. It takes memory for the
-/// names and the rules of the chains, and for two marks a chain.
+/// rules of the chains, for each name twice, and for two marks a chain.
 pub fn read_chains(
     alloc: Global,
     bytes: &[u8],
@@ -364,7 +364,8 @@ pub fn read_chains(
         (λ chains. chains_of asked assumed.now name.now bytes.now ≡ Ok chains.items) }
     ensures line { (fault : LineFault) → result ≡ Err (IptablesFault.Line fault)
         → chains_of asked assumed.now name.now bytes.now ≡ Err fault }
-    ensures refused { (fault : LineFault) → chains_of asked assumed.now name.now bytes.now ≡ Err fault
+    ensures refused { (fault : LineFault)
+        → chains_of asked assumed.now name.now bytes.now ≡ Err fault
         → (result ≡ Err (IptablesFault.Line fault)) ⊎ (result ≡ Err IptablesFault.OutOfMemory) }
 {
     match read_list(alloc, bytes, asked, assumed) {

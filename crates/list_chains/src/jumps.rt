@@ -11,8 +11,8 @@ use std::alloc::{AllocError, Global};
 
 /// For each chain whether jumps from it come to an end. It takes the memory of two marks a chain.
 ///
-/// A turn that marks no chain more is the last one: each turn after it would mark the same. So there
-/// are hardly more turns than chains on the longest way, and never more than chains.
+/// A turn that marks no chain more is the last one: each turn after it would mark the same. So
+/// there are hardly more turns than chains on the longest way, and never more than chains.
 pub(crate) fn ending(alloc: Global, chains: &[Chain]) -> Result<Vec<bool>, AllocError>
     ensures { IfOk result (λ marks. marks.items ≡ ending chains.now) }
 {

@@ -10,4 +10,5 @@ invariant_of-self c =
     let place = c.args.place in
     let there : place < length chains = omega (arith, c.requires, ap length c.self.view_is) in
     let named = c.add_line.ensures.name ∙ ap (λ (it : ListedChain). it.name) c.index_mut.ensures.value in
-    ArePlaces-set c.self.inside.places chains place c.add_line.new.self c.index_mut.result.now c.self.invariant there named
+    ArePlaces-set c.self.inside.places chains place c.add_line.new.self c.index_mut.result.now c.self.invariant
+    there named
