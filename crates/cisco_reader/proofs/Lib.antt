@@ -1,0 +1,3 @@
+pub mod JoinedWords
+pub mod ListLines
+pub mod Masks

@@ -1,0 +1,94 @@
+-- The other way to say what the words of an entry are: its parts, one after the other, each with
+-- what it stands for. So no word of an entry that is read is passed over.
+use Rattle.std.specs.Prelude.{◌≡◌, ℕ, true, false, codes, List, [], ◌∷◌, ◌++◌, map, Option, Some, None, Ok}
+use Rattle.std.specs.Str.{bytes_eq}
+use Rattle.list_chains.specs.declared.span.Span.{Span}
+use Rattle.cisco_reader.specs.declared.wildcard.Wildcard.{Wildcard}
+use Rattle.cisco_reader.specs.declared.ports.Operator.TheVariants as operator
+use Rattle.cisco_reader.specs.declared.ports.PortPart.{PortPart}
+use Rattle.cisco_reader.specs.declared.entry.Verdict.{Verdict}
+use Rattle.cisco_reader.specs.declared.entry.Entry.{Entry}
+use Rattle.cisco_reader.specs.Entry.{all_ones, entry_of, is_log, protocols_of}
+use Rattle.cisco_reader.specs.Names.{port_of}
+use Rattle.cisco_reader.specs.Ports.{operator_named, ports_above, ports_below}
+use Rattle.cisco_reader.specs.Wildcard.{ip4_plain, under_mask}
+
+-- ---- addresses
+
+-- The words for addresses: `any`; `host` and an address; or an address and its wildcard mask.
+pub data AreAddresses (words : List (List ℕ)) (it : Wildcard) : Type 0 where
+  Any : (word : List ℕ) → bytes_eq word (codes "any") ≡ true → words ≡ word ∷ []
+      → it ≡ record { base = 0; free = all_ones } → AreAddresses words it
+  Host : (word text : List ℕ) (address : ℕ) → bytes_eq word (codes "host") ≡ true
+      → ip4_plain text ≡ Some address → words ≡ word ∷ text ∷ []
+      → it ≡ record { base = address; free = 0 } → AreAddresses words it
+  Masked : (text mask : List ℕ) (address free : ℕ) → ip4_plain text ≡ Some address
+      → ip4_plain mask ≡ Some free → words ≡ text ∷ mask ∷ [] → it ≡ under_mask address free
+      → AreAddresses words it
+
+-- ---- ports
+
+-- one port
+abbrev pub one : ℕ → Span
+one port = record { low = port; high = port }
+
+-- words that are ports, each with its number
+pub record AreNumbers (words : List (List ℕ)) (ports : List ℕ) : Type 0 where
+  pub numbers : map port_of words ≡ map Some ports
+
+-- The words of a comparison of ports: none; `eq` or `neq` and ports; `gt` or `lt` and a port; or
+-- `range` and two.
+pub data AreCompared (words : List (List ℕ)) (it : Option PortPart) : Type 0 where
+  NoPorts : words ≡ [] → it ≡ None → AreCompared words it
+  Equal : (word : List ℕ) (texts : List (List ℕ)) (ports : List ℕ)
+      → operator_named word ≡ Some operator.Equal → AreNumbers texts ports → words ≡ word ∷ texts
+      → it ≡ Some (record { negated = false; ports = map one ports }) → AreCompared words it
+  NotEqual : (word : List ℕ) (texts : List (List ℕ)) (ports : List ℕ)
+      → operator_named word ≡ Some operator.NotEqual → AreNumbers texts ports → words ≡ word ∷ texts
+      → it ≡ Some (record { negated = true; ports = map one ports }) → AreCompared words it
+  Above : (word text : List ℕ) (port : ℕ) → operator_named word ≡ Some operator.Greater
+      → port_of text ≡ Some port → words ≡ word ∷ text ∷ []
+      → it ≡ Some (record { negated = false; ports = ports_above port }) → AreCompared words it
+  Below : (word text : List ℕ) (port : ℕ) → operator_named word ≡ Some operator.Less
+      → port_of text ≡ Some port → words ≡ word ∷ text ∷ []
+      → it ≡ Some (record { negated = false; ports = ports_below port }) → AreCompared words it
+  Range : (word first last : List ℕ) (low high : ℕ) → operator_named word ≡ Some operator.Range
+      → port_of first ≡ Some low → port_of last ≡ Some high → words ≡ word ∷ first ∷ last ∷ []
+      → it ≡ Some (record { negated = false; ports = record { low = low; high = high } ∷ [] })
+      → AreCompared words it
+
+-- ---- the log
+
+-- The words after the addresses: none; `log` or `log-input`; or one of them and a word for the log.
+pub data AreLog (words : List (List ℕ)) : Type 0 where
+  NoLog : words ≡ [] → AreLog words
+  Log : (word : List ℕ) → is_log word ≡ true
+      → words ≡ word ∷ [] → AreLog words
+  Told : (word other : List ℕ) → is_log word ≡ true
+      → words ≡ word ∷ other ∷ [] → AreLog words
+
+-- ---- the entry
+
+-- words after the verdict that are such parts, one after the other, and what they stand for
+pub record IsEntry (verdict : Verdict) (words : List (List ℕ)) (entry : Entry) : Type 0 where
+  pub protocol : List ℕ
+  pub source : List (List ℕ)
+  pub source_ports : List (List ℕ)
+  pub destination : List (List ℕ)
+  pub destination_ports : List (List ℕ)
+  pub log : List (List ℕ)
+  pub permits : entry.verdict ≡ verdict
+  pub protocols : protocols_of protocol ≡ Ok entry.protocol
+  pub sources : AreAddresses source entry.source.addresses
+  pub compared_sources : AreCompared source_ports entry.source.ports
+  pub destinations : AreAddresses destination entry.destination.addresses
+  pub compared_destinations : AreCompared destination_ports entry.destination.ports
+  pub logs : AreLog log
+  pub joined : protocol ∷ (source ++ (source_ports ++ (destination ++ (destination_ports ++ log))))
+      ≡ words
+
+-- the words of an entry that is read are such parts
+abbrev pub ReadWordsAreParts : Type 0
+ReadWordsAreParts =
+    (verdict : Verdict) (words : List (List ℕ)) (entry : Entry) → entry_of verdict words ≡ Ok entry
+    → IsEntry verdict words entry

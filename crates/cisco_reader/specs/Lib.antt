@@ -1,0 +1,12 @@
+pub mod Read
+pub mod Names
+pub mod Wildcard
+pub mod PortList
+pub mod Ports
+pub mod Entry
+pub mod Joined
+pub mod Heads
+pub mod Stops
+pub mod Sequence
+pub mod Lists
+pub mod Packets

@@ -1,0 +1,145 @@
+-- The rules of entries over the fields of IPv4's layout: one for each box of packets that an entry
+-- catches, but for those with a port after `neq`. An entry catches the packets of its protocol
+-- whose source and destination have the addresses and the ports that it names (Cisco IOS Security
+-- Command Reference, "permit (IP)").
+use Rattle.std.specs.Prelude.{ℕ, ◌-◌, ◌^◌, if◌then◌else◌, List, [], ◌∷◌, ◌++◌, map, flat_map, Option, Some, None}
+use Rattle.std.specs.Prelude.{Result, Ok, Err}
+use Rattle.list_chains.specs.declared.span.Span.{Span}
+use Rattle.list_chains.specs.declared.chain.Target.TheVariants.{Decide}
+use Rattle.list_chains.specs.Chains.{ListRule}
+use Rattle.cisco_reader.specs.declared.entry.Entry.{Entry}
+use Rattle.cisco_reader.specs.declared.entry.Verdict.{Verdict}
+use Rattle.cisco_reader.specs.declared.entry.Verdict.TheVariants as verdict
+use Rattle.cisco_reader.specs.declared.sequence.Placed.{Placed}
+use Rattle.cisco_reader.specs.declared.packets.Answers.{Answers}
+use Rattle.cisco_reader.specs.declared.packets.Answers.TheVariants as answers
+use Rattle.cisco_reader.specs.declared.packets.Packets.{Packets}
+use Rattle.cisco_reader.specs.declared.ports.PortPart.{PortPart}
+use Rattle.cisco_reader.specs.declared.fault.LineFault.{LineFault}
+use Rattle.cisco_reader.specs.Lists.{entries_of}
+use Rattle.cisco_reader.specs.Wildcard.{spans_under}
+
+-- all numbers of so many bits
+abbrev pub any : ℕ → Span
+any bits = record { low = 0; high = 2 ^ bits - 1 }
+
+-- all packets
+abbrev pub all_packets : Packets
+all_packets = record {
+  protocol = any 8;
+  source = any 32;
+  destination = any 32;
+  source_ports = any 16;
+  destination_ports = any 16;
+}
+
+-- the ports that a comparison wants: all, where others are left out
+abbrev pub wanted : PortPart → List Span
+wanted part = if part.negated then any 16 ∷ [] else part.ports
+
+-- and all, where there is none
+abbrev pub kept_ports : Option PortPart → List Span
+kept_ports None = any 16 ∷ []
+kept_ports (Some part) = wanted part
+
+-- the ports that it leaves out
+abbrev pub left_ports : Option PortPart → List Span
+left_ports None = []
+left_ports (Some part) = if part.negated then part.ports else []
+
+-- packets with such source ports, and with such destination ports
+abbrev pub from_ports : Packets → Span → Packets
+from_ports packets span = record packets { source_ports = span }
+
+abbrev pub to_ports : Packets → Span → Packets
+to_ports packets span = record packets { destination_ports = span }
+
+-- packets with such sources, and with such destinations
+abbrev pub from : Packets → Span → Packets
+from packets span = record packets { source = span }
+
+abbrev pub to : Packets → Span → Packets
+to packets span = record packets { destination = span }
+
+-- the packets that an entry leaves out of its own
+abbrev pub left_out : Entry → List Packets
+left_out entry =
+    map (from_ports all_packets) (left_ports entry.source.ports)
+    ++ map (to_ports all_packets) (left_ports entry.destination.ports)
+
+-- the spans of some packets, in the order of the layout
+abbrev pub spans_of : Packets → List Span
+spans_of packets =
+    packets.protocol ∷ packets.source ∷ packets.destination ∷ packets.source_ports
+    ∷ packets.destination_ports ∷ []
+
+-- what all rules of an entry have in common: the answer, the packets that they leave out, and the
+-- numbers of each part that the entry wants
+pub record EntryParts : Type 0 where
+  pub answer : ℕ
+  pub left : List Packets
+  pub sources : List Span
+  pub destinations : List Span
+  pub source_ports : List Span
+  pub destination_ports : List Span
+
+-- the rule of a box of packets
+abbrev pub rule_of : EntryParts → Packets → ListRule (List Span)
+rule_of parts packets = record {
+  userdata = parts.answer;
+  inside = spans_of packets;
+  but = map spans_of parts.left;
+  target = Decide;
+}
+
+-- the rules of packets, by their destination ports, source ports, destinations and sources
+abbrev pub to_port_rules : EntryParts → Packets → List (ListRule (List Span))
+to_port_rules parts packets =
+    map (λ span. rule_of parts (to_ports packets span)) parts.destination_ports
+
+abbrev pub from_port_rules : EntryParts → Packets → List (ListRule (List Span))
+from_port_rules parts packets =
+    flat_map (λ span. to_port_rules parts (from_ports packets span)) parts.source_ports
+
+abbrev pub to_rules : EntryParts → Packets → List (ListRule (List Span))
+to_rules parts packets =
+    flat_map (λ span. from_port_rules parts (to packets span)) parts.destinations
+
+abbrev pub from_rules : EntryParts → Packets → List (ListRule (List Span))
+from_rules parts packets = flat_map (λ span. to_rules parts (from packets span)) parts.sources
+
+-- the answer of an entry: its line, or 1 where it permits and 2 where it denies
+abbrev pub verdict_answer : Verdict → ℕ
+verdict_answer verdict.Permit = 1
+verdict_answer verdict.Deny = 2
+
+-- by what is asked
+abbrev pub answer_of : Answers → ℕ → Verdict → ℕ
+answer_of answers.Line line said = line
+answer_of answers.Verdict line said = verdict_answer said
+
+-- the parts of an entry
+abbrev pub parts_of : Answers → Placed → EntryParts
+parts_of asked it = record {
+  answer = answer_of asked it.line it.entry.verdict;
+  left = left_out it.entry;
+  sources = spans_under it.entry.source.addresses;
+  destinations = spans_under it.entry.destination.addresses;
+  source_ports = kept_ports it.entry.source.ports;
+  destination_ports = kept_ports it.entry.destination.ports;
+}
+
+-- the rules of an entry
+abbrev pub rules_of : Answers → Placed → List (ListRule (List Span))
+rules_of asked it =
+    from_rules (parts_of asked it) (record all_packets { protocol = it.entry.protocol })
+
+-- the rules of entries, or the fault of the list
+abbrev pub rules_then : Answers → Result (List Placed) LineFault
+    → Result (List (ListRule (List Span))) LineFault
+rules_then asked (Ok entries) = Ok (flat_map (rules_of asked) entries)
+rules_then asked (Err fault) = Err fault
+
+-- the rules of the list of a name in a configuration, in their order, or the first fault
+abbrev pub list_of : Answers → List ℕ → List ℕ → Result (List (ListRule (List Span))) LineFault
+list_of asked name bytes = rules_then asked (entries_of name bytes)

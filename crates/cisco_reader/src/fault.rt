@@ -1,0 +1,106 @@
+//! Why a list isn't read.
+
+use std::alloc::AllocError;
+
+/// Why a list isn't read.
+#[derive(Clone, Copy)]
+pub enum CiscoFault {
+    /// The file is too long, the list isn't in it, or this is its first faulty line.
+    Line(LineFault),
+    /// There isn't enough memory.
+    OutOfMemory,
+}
+
+impl From<AllocError> for CiscoFault {
+    ghost use Rattle.std.specs.Prelude.{◌≡◌};
+    ghost use Rattle.cisco_reader.specs.declared.fault.CiscoFault.TheVariants.{OutOfMemory};
+
+    ghost from_gives = { λ _ fault. fault ≡ OutOfMemory };
+
+    fn from(_: AllocError) -> CiscoFault {
+        CiscoFault::OutOfMemory
+    }
+}
+
+/// The first faulty line of a file, by its number from 1, and its fault. A file that is too long
+/// has the line 0, and one without the list its last line.
+#[derive(Clone, Copy)]
+pub struct LineFault {
+    pub line: u32,
+    pub kind: LineKind,
+}
+
+/// The kinds of faults. Of a line the first one from left to right is told.
+#[derive(Clone, Copy)]
+pub enum LineKind {
+    /// The file has more than 16,777,216 bytes.
+    FileTooLong,
+    /// The list that is asked for isn't begun.
+    NoList,
+    /// The list that is asked for has no entry that permits or denies.
+    NoEntries,
+    /// The list that is asked for is begun, and isn't an extended list of IPv4.
+    NotExtended,
+    /// The line has `access-list`, and begins no list and is no entry of one.
+    BadList,
+    /// The line takes out a list or an entry, which a configuration doesn't when it is written.
+    TakenOut,
+    /// The entry stands outside of a list.
+    StrayEntry,
+    /// The line is no entry of the list in which it stands, and begins no other part.
+    NoEntry,
+    /// The line begins no part of a configuration that is known here.
+    UnknownLine,
+    /// The line follows a whole entry, and may be the end of it.
+    Wrapped,
+    /// The sequence number is 0 or above 4,294,967,294.
+    BadSequence,
+    /// The sequence number is that of an entry before.
+    SequenceTwice,
+    /// An entry before has no sequence number, and stands after a remark that may have one.
+    LooseEntry,
+    /// The line ends where a word is missing.
+    MissingWord,
+    /// A group of objects is named, which isn't read here.
+    Group,
+    /// The word is no protocol that is known here.
+    BadProtocol,
+    /// The protocol is 0, which means all protocols to some devices.
+    ZeroProtocol,
+    /// The word is no IPv4 address.
+    BadAddress,
+    /// The wildcard mask is none, or has more than 8 gaps.
+    BadMask,
+    /// The word is no port that is known here, or a range has its higher port first.
+    BadPort,
+    /// More than 10 ports stand after `eq` or `neq`.
+    ManyPorts,
+    /// Ports are compared, and the protocol isn't TCP, UDP or SCTP.
+    NeedsProtocol,
+    /// The entry compares what a rule can't: flags, fragments, marks, times or states.
+    Compares,
+    /// The entry compares a type of ICMP.
+    IcmpType,
+    /// The word isn't known at this place.
+    UnknownWord,
+}
+
+/// Why a line isn't read.
+#[derive(Clone, Copy)]
+pub(crate) enum Stop {
+    /// It is faulty.
+    Faulty(LineKind),
+    /// There isn't enough memory.
+    OutOfMemory,
+}
+
+impl From<AllocError> for Stop {
+    ghost use Rattle.std.specs.Prelude.{◌≡◌};
+    ghost use Rattle.cisco_reader.specs.declared.fault.Stop.TheVariants.{OutOfMemory};
+
+    ghost from_gives = { λ _ stop. stop ≡ OutOfMemory };
+
+    fn from(_: AllocError) -> Stop {
+        Stop::OutOfMemory
+    }
+}

@@ -1,0 +1,42 @@
+//! bytes of a configuration of Cisco IOS → the rules of an extended access list, or the first fault
+//!
+//! It reads what `show running-config` writes. An entry is read word by word, from left to right.
+//! Whatever isn't known here is refused, so that no word of a list that is accepted is passed over.
+//!
+//! | module | what it holds |
+//! |---|---|
+//! | `names` | numbers, and the words that name ports and protocols |
+//! | `wildcard` | addresses under a wildcard mask |
+//! | `port_list` | ports after `eq` and `neq` |
+//! | `ports` | comparisons of ports |
+//! | `entry` | an entry, word by word |
+//! | `packets` | the rules of an entry, as boxes of packets |
+//! | `heads` | what a line begins or is in its configuration |
+//! | `sequence` | entries by their numbers in the sequence |
+//! | `commands` | words of commands of lists |
+//! | `list` | the list so far, and what each line adds to it |
+//! | `reading` | a configuration, line by line |
+//! | `fault` | the kinds of faults, and the line of the first one |
+//! | `laws` | the words of an entry that is read are whole parts |
+//!
+//! Source: Cisco IOS Security Command Reference, "access-list (IP extended)", "ip access-list" and
+//! "permit (IP)".
+#![tactic(auto)]
+
+mod commands;
+mod entry;
+mod fault;
+mod heads;
+pub mod laws;
+mod list;
+mod names;
+mod packets;
+mod port_list;
+mod ports;
+mod reading;
+mod sequence;
+mod wildcard;
+
+pub use fault::{CiscoFault, LineFault, LineKind};
+pub use packets::{Answers, read_list};
+pub use reading::MAX_LIST;

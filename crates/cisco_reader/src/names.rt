@@ -1,0 +1,131 @@
+//! Numbers, and the words that name ports and protocols.
+
+ghost use Rattle.std.specs.Prelude.{◌≡◌, ◌≤◌, IfSome};
+ghost use Rattle.text_scan.specs.Parts.{words_of};
+ghost use Rattle.cisco_reader.specs.Names.{compared_words, is_among, is_compared, is_filled, number_named};
+ghost use Rattle.cisco_reader.specs.Names.{number_of, port_of, port_table, protocol_of, protocol_table};
+
+use text_scan::{digits_value, next_word};
+
+/// The greatest port.
+pub(crate) const MAX_PORT: u64 = 65_535;
+
+/// The greatest number of a protocol.
+pub(crate) const MAX_PROTOCOL: u64 = 255;
+
+/// Whether a word is one of those between blanks.
+#[tactic(auto, unfolding(crate::specs::Names::is_among))]
+pub(crate) fn is_among(word: &[u8], words: &[u8]) -> bool
+    ensures { result ≡ is_among word.now (words_of words.now) }
+{
+    let mut left = words;
+    while let Some((one, rest)) = next_word(left) {
+        if one == word {
+            return true;
+        }
+        left = rest;
+    }
+    false
+}
+
+/// Whether a word has a byte.
+fn is_filled(word: &[u8]) -> bool
+    ensures { result ≡ is_filled word.now }
+{
+    !word.is_empty()
+}
+
+/// The number that a word spells in decimal, if it is at most so great.
+pub(crate) fn number(word: &[u8], greatest: u64) -> Option<u64>
+    ensures number { result ≡ number_of greatest word.now }
+    ensures bound { IfSome result (λ number. number ≤ greatest) }
+{
+    if !is_filled(word) {
+        return None;
+    }
+    let number = digits_value(word, 10)?;
+    (number <= greatest).then_some(number)
+}
+
+/// The number that stands after a name, in a table of names and numbers between blanks.
+#[tactic(auto, unfolding(crate::specs::Names::number_named))]
+fn number_named(word: &[u8], table: &[u8]) -> Option<u64>
+    ensures number { result ≡ number_named word.now (words_of table.now) }
+    ensures bound { IfSome result (λ number. number ≤ 65535) }
+{
+    let mut left = table;
+    while let Some((name, rest)) = next_word(left) {
+        let Some((value, rest)) = next_word(rest) else {
+            return None;
+        };
+        if name == word {
+            return number(value, MAX_PORT);
+        }
+        left = rest;
+    }
+    None
+}
+
+/// The numbers of ports by their names, as IOS has them.
+#[tactic(auto, unfolding(crate::specs::Names::port_table))]
+fn ports() -> &'static [u8]
+    ensures { result.now ≡ port_table }
+{
+    b"bgp 179 biff 512 bootpc 68 bootps 67 chargen 19 cmd 514 daytime 13 discard 9 dnsix 195 \
+    domain 53 drip 3949 echo 7 exec 512 finger 79 ftp 21 ftp-data 20 gopher 70 hostname 101 \
+    ident 113 irc 194 isakmp 500 klogin 543 kshell 544 ldp 646 login 513 lpd 515 \
+    mobile-ip 434 msrpc 135 nameserver 42 netbios-dgm 138 netbios-ns 137 netbios-ss 139 \
+    nntp 119 non500-isakmp 4500 ntp 123 pim-auto-rp 496 pop2 109 pop3 110 rip 520 smtp 25 \
+    snmp 161 snmptrap 162 ssh 22 sunrpc 111 syslog 514 tacacs 49 talk 517 telnet 23 tftp 69 \
+    time 37 uucp 540 who 513 whois 43 www 80 xdmcp 177"
+        .as_slice()
+}
+
+/// The numbers of protocols by their names, as IOS has them.
+#[tactic(auto, unfolding(crate::specs::Names::protocol_table))]
+fn protocols() -> &'static [u8]
+    ensures { result.now ≡ protocol_table }
+{
+    b"ahp 51 eigrp 88 esp 50 gre 47 icmp 1 igmp 2 igrp 9 ipinip 4 nos 94 ospf 89 pcp 108 \
+    pim 103 sctp 132 tcp 6 udp 17"
+        .as_slice()
+}
+
+/// The number of a port, by its name or its number.
+pub(crate) fn port(word: &[u8]) -> Option<u64>
+    ensures number { result ≡ port_of word.now }
+    ensures bound { IfSome result (λ number. number ≤ 65535) }
+{
+    if let Some(number) = number_named(word, ports()) {
+        return Some(number);
+    }
+    number(word, MAX_PORT)
+}
+
+/// The number of a protocol, by its name or its number.
+pub(crate) fn protocol_number(word: &[u8]) -> Option<u64>
+    ensures { result ≡ protocol_of word.now }
+{
+    if let Some(number) = number_named(word, protocols()) {
+        return Some(number);
+    }
+    number(word, MAX_PROTOCOL)
+}
+
+/// The words that begin a comparison of an entry that a rule can't say.
+#[tactic(auto, unfolding(crate::specs::Names::compared_words))]
+fn compared() -> &'static [u8]
+    ensures { result.now ≡ compared_words }
+{
+    b"fragments fragment-type dscp precedence tos time-range option ttl reflect evaluate \
+    packet-length vlan routing dest-option mobility hbh destopts authen flow-label ack fin \
+    psh rst syn urg established match-all match-any tcp-flags-mask"
+        .as_slice()
+}
+
+/// Whether a word begins such a comparison.
+pub(crate) fn is_compared(word: &[u8]) -> bool
+    ensures { result ≡ is_compared word.now }
+{
+    is_among(word, compared())
+}
