@@ -8,8 +8,8 @@ use Rattle.iptables_reader.specs.declared.table.Answers.TheVariants as answers
 use Rattle.list_tool.specs.declared.status.Refusal.{Refusal}
 use Rattle.list_tool.specs.declared.status.Refusal.TheVariants as refusal
 use Rattle.list_tool.specs.Decides.{Listed}
-use Rattle.list_tool.specs.Listing.{family_of}
-use Rattle.list_tool.specs.Printed.{Refuses, asked_for, rules_for, text_of, text_of_rules}
+use Rattle.list_tool.specs.Listing.{family_of, rules_for}
+use Rattle.list_tool.specs.Printed.{Refuses, text_of, text_of_rules}
 use Rattle.list_tool.specs.Texts.{IsTextOf, IsTextOfRules, ListedFor}
 use Rattle.list_tool.specs.Words.{Request}
 
@@ -46,8 +46,7 @@ module _ (request : Request) (bytes : List ℕ) (by_line : RuleSetView) (its : A
     decides = record {
       rules = set.rules;
       accepted = it.accepted;
-      decides = (subst (λ a. Listed (asked_for request a) request.options.assumed request.chain bytes set)
-          (sym asked) listed.listed).rules;
+      decides = (subst (λ a. Listed request a bytes set) (sym asked) listed.listed).rules;
     };
     refused = tt;
   }

@@ -1,5 +1,5 @@
 -- What a run comes to: where the outside has no fault, by the files that are there.
-use Rattle.std.proofs.Common.{◌≡◌, ℕ, ◌+◌, List, ◌++◌, Some, None, Ok, Err, Result}
+use Rattle.std.proofs.Common.{◌≡◌, ℕ, List, ◌++◌, Some, None, Ok, Err, Result}
 use Rattle.std.proofs.Common.{refl, sym, ap, subst, ◌∙◌, inl, inr, append-nil}
 use Rattle.acl_outside.specs.Desk.{File, bytes_of}
 use Rattle.acl_outside.specs.Heard.{Heard, Ending, Ended}

@@ -1,23 +1,41 @@
 -- A list that is too long is refused, whatever more of it may come.
 use Rattle.std.proofs.Common.{◌≡◌, ℕ, ◌+◌, List, ◌++◌, length, Err, refl, arith, nat_lt, true, length-append}
 use Rattle.std.proofs.lemmas.Bool.{le-leb}
-use Rattle.iptables_reader.specs.declared.fault.LineKind.TheVariants.{FileTooLong}
+use Rattle.iptables_reader.specs.declared.fault.LineKind.TheVariants as line
 use Rattle.iptables_reader.specs.declared.table.Answers.{Answers}
 use Rattle.iptables_reader.specs.declared.table.Answers.TheVariants as answers
 use Rattle.iptables_reader.specs.Table.{max_list}
-use Rattle.list_tool.specs.declared.status.ListKind.TheVariants.{Line}
-use Rattle.list_tool.specs.Listing.{at_line}
-use Rattle.list_tool.specs.Printed.{rules_for, text_of}
+use Rattle.cisco_reader.specs.declared.fault.LineKind.TheVariants as entry
+use Rattle.list_tool.specs.declared.status.ListKind.{ListKind}
+use Rattle.list_tool.specs.declared.status.ListKind.TheVariants.{Line, CiscoLine}
+use Rattle.list_tool.specs.declared.words.Form.{Form}
+use Rattle.list_tool.specs.declared.words.Form.TheVariants.{Iptables, Ip6tables, Cisco}
+use Rattle.list_tool.specs.Listing.{at_line, rules_for, way_in}
+use Rattle.list_tool.specs.Printed.{text_of}
 use Rattle.list_tool.specs.Words.{Request}
+
+-- what is told of it
+abbrev pub long_kind : Form → ListKind
+long_kind Iptables = Line line.FileTooLong
+long_kind Ip6tables = Line line.FileTooLong
+long_kind Cisco = CiscoLine entry.FileTooLong
+
+-- it says nothing
+long_way : (form : Form) (its : Answers) (assumed name bytes : List ℕ) → nat_lt max_list (length bytes) ≡ true →
+    way_in form its assumed name bytes ≡ Err (at_line 0 (long_kind form))
+long_way Iptables its assumed name bytes long = rw long refl
+long_way Ip6tables its assumed name bytes long = rw long refl
+long_way Cisco its assumed name bytes long = rw long refl
 
 -- its rules are refused
 long_rules : (request : Request) (bytes : List ℕ) (its : Answers) → nat_lt max_list (length bytes) ≡ true →
-    rules_for request bytes its ≡ Err (at_line 0 (Line FileTooLong))
-long_rules request bytes its long = rw long refl
+    rules_for request bytes its ≡ Err (at_line 0 (long_kind request.form))
+long_rules request bytes its long =
+    rw (long_way request.form its request.options.assumed request.chain bytes long) refl
 
 -- and its text
 pub too_long : (request : Request) (front more : List ℕ) → length front ≡ max_list + 1 →
-    text_of request (front ++ more) ≡ Err (at_line 0 (Line FileTooLong))
+    text_of request (front ++ more) ≡ Err (at_line 0 (long_kind request.form))
 too_long request front more is =
     let long : nat_lt max_list (length (front ++ more)) ≡ true =
     le-leb (max_list + 1) (length (front ++ more)) (omega (arith, is, length-append front more)) in

@@ -7,11 +7,16 @@ use Rattle.iptables_reader.specs.declared.table.Answers.{Answers}
 use Rattle.iptables_reader.specs.declared.table.Answers.TheVariants as answers
 use Rattle.iptables_reader.specs.Table.{with_lines}
 use Rattle.iptables_reader.specs.Tables.{match_table, protocol_table, target_table}
+use Rattle.cisco_reader.specs.declared.fault.LineKind.TheVariants as entry
+use Rattle.cisco_reader.specs.Entry.{log_words}
+use Rattle.cisco_reader.specs.Lists as cisco
+use Rattle.cisco_reader.specs.Names.{compared_words, is_among, number_named}
+use Rattle.cisco_reader.specs.Names as names
 use Rattle.list_tool.specs.declared.status.ListStatus.{ListStatus}
 use Rattle.list_tool.specs.declared.status.ListStatus.TheVariants.{Usage, Refused, ReadFault}
-use Rattle.list_tool.specs.declared.status.ListKind.TheVariants.{Line, NoChain, NoPolicy, Loop}
+use Rattle.list_tool.specs.declared.status.ListKind.TheVariants.{Line, CiscoLine, NoChain, NoPolicy, Loop}
 use Rattle.list_tool.specs.declared.words.Form.{Form}
-use Rattle.list_tool.specs.declared.words.Form.TheVariants.{Iptables}
+use Rattle.list_tool.specs.declared.words.Form.TheVariants.{Iptables, Cisco}
 use Rattle.list_tool.specs.Listing.{at_line}
 use Rattle.list_tool.specs.Message.{message}
 use Rattle.list_tool.specs.RunsLists.{ListOutcome, outcome}
@@ -68,11 +73,23 @@ a_loop : over (codes "*filter\n:INPUT DROP [0:0]\n:web - [0:0]\n-A INPUT -j web\
 unfolding digits with_lines protocol_table target_table
 a_loop = refl
 
+-- an entry of a router that no rule file says
+a_faulty_entry : over (codes "access-list 101 permit tcp any any established\n")
+    (asked Cisco (codes "101") answers.Line) ≡ only (Refused (at_line 1 (CiscoLine entry.Compares)))
+unfolding digits cisco.with_lines is_among number_named names.protocol_table compared_words log_words
+    cisco.entry_words
+a_faulty_entry = refl
+
 -- ---- lines on standard error
 
 a_message : message (Refused (at_line 5 Loop)) ≡ codes "aclc-lists: list: line 5: loop\n"
 unfolding digits
 a_message = refl
+
+of_an_entry : message (Refused (at_line 1 (CiscoLine entry.Compares)))
+    ≡ codes "aclc-lists: list: line 1: matches what no rule file says\n"
+unfolding digits
+of_an_entry = refl
 
 of_words : message (Usage (fault_at 1 UnknownCommand)) ≡ codes "aclc-lists: usage: word 1: unknown command\n"
 unfolding digits

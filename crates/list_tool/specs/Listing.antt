@@ -1,5 +1,6 @@
--- The rules of a chain of a list, or the first thing of the list that can't be said.
-use Rattle.std.specs.Prelude.{ℕ, List, map, false, slice_get, Option, Some, None}
+-- The rules of a chain of a saved list, or of a list of a configuration, or the first thing that
+-- can't be said.
+use Rattle.std.specs.Prelude.{ℕ, List, [], ◌∷◌, map, false, slice_get, Option, Some, None}
 use Rattle.std.specs.Prelude.{Result, Ok, Err}
 use Rattle.field_defs.specs.declared.field.Family.{Family}
 use Rattle.field_defs.specs.declared.field.Family.TheVariants.{Ip4, Ip6}
@@ -15,25 +16,31 @@ use Rattle.list_chains.specs.Chains.{ListRule}
 use Rattle.list_chains.specs.Tasks.{Chains}
 use Rattle.list_chains.specs.Turned.{turned}
 use Rattle.iptables_reader.specs.declared.fault.LineFault.{LineFault}
+use Rattle.iptables_reader.specs.declared.table.Answers.{Answers}
+use Rattle.iptables_reader.specs.declared.table.Answers.TheVariants as answers
 use Rattle.iptables_reader.specs.declared.table.Asked.{Asked}
 use Rattle.iptables_reader.specs.Chains.{ListedChain, place_of}
 use Rattle.iptables_reader.specs.Table.{chains_of}
+use Rattle.cisco_reader.specs.declared.fault.LineFault as cisco
+use Rattle.cisco_reader.specs.declared.packets.Answers as said
+use Rattle.cisco_reader.specs.declared.packets.Answers.TheVariants as entry
+use Rattle.cisco_reader.specs.Packets.{list_of}
 use Rattle.list_tool.specs.declared.status.ListFault.{ListFault}
 use Rattle.list_tool.specs.declared.status.ListKind.{ListKind}
-use Rattle.list_tool.specs.declared.status.ListKind.TheVariants.{Line, NoChain, NoPolicy, NoTarget}
+use Rattle.list_tool.specs.declared.status.ListKind.TheVariants.{Line, CiscoLine, NoChain, NoPolicy, NoTarget}
 use Rattle.list_tool.specs.declared.status.ListKind.TheVariants.{Loop, TooManyRules, TooManySteps}
 use Rattle.list_tool.specs.declared.status.Refusal.{Refusal}
 use Rattle.list_tool.specs.declared.status.Refusal.TheVariants as refusal
 use Rattle.list_tool.specs.declared.listing.Start.{Start}
 use Rattle.list_tool.specs.declared.words.Form.{Form}
-use Rattle.list_tool.specs.declared.words.Form.TheVariants.{Iptables, Ip6tables}
-
--- ---- what the reader of the form is asked for
+use Rattle.list_tool.specs.declared.words.Form.TheVariants.{Iptables, Ip6tables, Cisco}
+use Rattle.list_tool.specs.Words.{Request}
 
 -- the family of a form's packets
 abbrev pub family_of : Form → Family
 family_of Iptables = Ip4
 family_of Ip6tables = Ip6
+family_of Cisco = Ip4
 
 -- ---- faults
 
@@ -111,14 +118,76 @@ start_of name chains = start_at chains (place_of false name chains)
 abbrev pub alone : List ListedChain → Chains
 alone chains = map (λ chain. chain.rules) chains
 
--- the rules of the chain of a name
-abbrev pub rules_of_chain : List FieldDef → List ℕ → List ListedChain → Result (List RuleView) ListFault
-rules_of_chain layout name chains =
-    start_of name chains >>= λ start.
-    or_unturned (alone chains) (turned layout (alone chains) start.place start.policy)
+-- ---- what a list says
 
--- the rules of the chain of a name, by the bytes of a list
-abbrev pub rules_in : Asked → List ℕ → List ℕ → List ℕ → Result (List RuleView) ListFault
-rules_in asked assumed name bytes =
-    or_unread (chains_of asked assumed name bytes) >>= λ chains.
-    rules_of_chain (fields_of asked.family) name chains
+-- chains, and which of them packets come to
+pub record WayView : Type 0 where
+  pub chains : Chains
+  pub start : Start
+
+-- the chains of a saved list, which begin at that of a name
+abbrev pub way_from : List ℕ → List ListedChain → Result WayView ListFault
+way_from name chains =
+    start_of name chains >>= λ start. Ok (record { chains = alone chains; start = start })
+
+-- the same by the bytes of the list
+abbrev pub saved_way : Asked → List ℕ → List ℕ → List ℕ → Result WayView ListFault
+saved_way asked assumed name bytes =
+    or_unread (chains_of asked assumed name bytes) >>= way_from name
+
+-- what the answers of entries are
+abbrev pub entry_answers : Answers → said.Answers
+entry_answers answers.Line = entry.Line
+entry_answers answers.Verdict = entry.Verdict
+
+-- A packet that no entry of a list catches is denied (Cisco IOS Security Configuration Guide, "IP
+-- Access List Overview": the implicit deny), and no line says so.
+abbrev pub unsaid_end : Answers → ℕ
+unsaid_end answers.Line = 0
+unsaid_end answers.Verdict = 2
+
+-- the entries of a list as the only chain
+abbrev pub entries_way : Answers → List (ListRule (List Span)) → WayView
+entries_way its rules = record {
+  chains = rules ∷ [];
+  start = record { place = 0; policy = unsaid_end its };
+}
+
+-- the entries that were read, or the line that isn't
+abbrev pub or_unread_entry : Answers → Result (List (ListRule (List Span))) cisco.LineFault →
+    Result WayView ListFault
+or_unread_entry its (Ok rules) = Ok (entries_way its rules)
+or_unread_entry its (Err fault) = Err (at_line fault.line (CiscoLine fault.kind))
+
+-- the list of a name in a configuration
+abbrev pub configured_way : Answers → List ℕ → List ℕ → Result WayView ListFault
+configured_way its name bytes = or_unread_entry its (list_of (entry_answers its) name bytes)
+
+-- what a list of a form says of the chain or the list of a name
+abbrev pub way_in : Form → Answers → List ℕ → List ℕ → List ℕ → Result WayView ListFault
+way_in Iptables its assumed name bytes =
+    saved_way (record { family = Ip4; answers = its }) assumed name bytes
+way_in Ip6tables its assumed name bytes =
+    saved_way (record { family = Ip6; answers = its }) assumed name bytes
+way_in Cisco its assumed name bytes = configured_way its name bytes
+
+-- what is asked for, with such answers, by the bytes of a list
+abbrev pub way_of : Request → Answers → List ℕ → Result WayView ListFault
+way_of request its bytes =
+    way_in request.form its request.options.assumed request.chain bytes
+
+-- ---- its rules
+
+-- the fields of the packets of a form
+abbrev pub layout_of : Form → List FieldDef
+layout_of form = fields_of (family_of form)
+
+-- the rules of chains
+abbrev pub turned_way : List FieldDef → WayView → Result (List RuleView) ListFault
+turned_way layout way =
+    or_unturned way.chains (turned layout way.chains way.start.place way.start.policy)
+
+-- the rules that a request asks for, with such answers
+abbrev pub rules_for : Request → List ℕ → Answers → Result (List RuleView) ListFault
+rules_for request bytes its =
+    way_of request its bytes >>= turned_way (layout_of request.form)

@@ -3,13 +3,15 @@ use Rattle.std.specs.Prelude.{ℕ, List, [], ◌∷◌, ◌++◌, codes, decimal
 use Rattle.command_ending.specs.Message.{usage_text}
 use Rattle.iptables_reader.specs.declared.fault.LineKind.{LineKind}
 use Rattle.iptables_reader.specs.declared.fault.LineKind.TheVariants as line
+use Rattle.cisco_reader.specs.declared.fault.LineKind as cisco
+use Rattle.cisco_reader.specs.declared.fault.LineKind.TheVariants as entry
 use Rattle.list_tool.specs.declared.status.ListKind.{ListKind}
 use Rattle.list_tool.specs.declared.status.ListKind.TheVariants as kind
 use Rattle.list_tool.specs.declared.status.ListStatus.{ListStatus}
 use Rattle.list_tool.specs.declared.status.ListStatus.TheVariants.{Done, Usage, Refused, ReadFault}
 use Rattle.list_tool.specs.declared.status.ListStatus.TheVariants.{WriteFault, OutOfMemory}
 
--- what is told of a line of a table
+-- what is told of a line of a saved list
 abbrev pub table_text : LineKind → List ℕ
 table_text line.FileTooLong = codes "file too long"
 table_text line.NoTable = codes "no table"
@@ -41,9 +43,38 @@ table_text line.NeedsState = codes "state not assumed"
 table_text line.NeedsLocal = codes "local addresses not assumed"
 table_text line.CantSay = codes "matches what no rule file says"
 
+-- and of a line of a configuration
+abbrev pub cisco_text : cisco.LineKind → List ℕ
+cisco_text entry.FileTooLong = codes "file too long"
+cisco_text entry.NoList = codes "no such list"
+cisco_text entry.NoEntries = codes "list without entries"
+cisco_text entry.NotExtended = codes "no extended list of IPv4"
+cisco_text entry.BadList = codes "no list or entry of one"
+cisco_text entry.TakenOut = codes "list or entry taken out"
+cisco_text entry.StrayEntry = codes "entry outside of a list"
+cisco_text entry.NoEntry = codes "no entry of its list"
+cisco_text entry.UnknownLine = codes "unknown line"
+cisco_text entry.Wrapped = codes "may be the end of the entry before"
+cisco_text entry.BadSequence = codes "bad sequence number"
+cisco_text entry.SequenceTwice = codes "repeated sequence number"
+cisco_text entry.LooseEntry = codes "entry before without a sequence number"
+cisco_text entry.MissingWord = codes "missing word"
+cisco_text entry.Group = codes "group of objects"
+cisco_text entry.BadProtocol = codes "bad protocol"
+cisco_text entry.ZeroProtocol = codes "protocol 0"
+cisco_text entry.BadAddress = codes "bad address"
+cisco_text entry.BadMask = codes "bad wildcard mask"
+cisco_text entry.BadPort = codes "bad port"
+cisco_text entry.ManyPorts = codes "more than 10 ports"
+cisco_text entry.NeedsProtocol = codes "ports of another protocol"
+cisco_text entry.Compares = codes "matches what no rule file says"
+cisco_text entry.IcmpType = codes "type of ICMP"
+cisco_text entry.UnknownWord = codes "unknown word"
+
 -- what is told of a list
 abbrev pub list_text : ListKind → List ℕ
 list_text (kind.Line fault) = table_text fault
+list_text (kind.CiscoLine fault) = cisco_text fault
 list_text kind.NoChain = codes "no such chain"
 list_text kind.NoPolicy = codes "chain without a policy"
 list_text kind.NoTarget = codes "target not there"

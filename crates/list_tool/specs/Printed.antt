@@ -1,21 +1,19 @@
 -- The text of a rule file that is made of a list: its rules, and above each the text of the line that
 -- it was made of, where that isn't the line of the rule before it.
 use Rattle.std.specs.Prelude.{◌≡◌, ℕ, ◌+◌, ◌-◌, ◌==◌, List, [], ◌∷◌, ◌++◌, length, nat_lt, slice_get}
-use Rattle.std.specs.Prelude.{if◌then◌else◌, Option, Some, None, Result, Ok, Err}
+use Rattle.std.specs.Prelude.{if◌then◌else◌, codes, Option, Some, None, Result, Ok, Err}
 use Rattle.field_defs.specs.declared.field.Family.{Family}
 use Rattle.rule_set.specs.Rule.{RuleView}
 use Rattle.text_scan.specs.Parts.{lines_of}
 use Rattle.classbench_reader.specs.Limits.{max_rule_file}
 use Rattle.classbench_reader.specs.Print.{has_prefixes}
 use Rattle.printed_lists.specs.Listed.{LineView, Comment, Rule, list_text}
-use Rattle.iptables_reader.specs.declared.table.Answers.{Answers}
 use Rattle.iptables_reader.specs.declared.table.Answers.TheVariants as answers
-use Rattle.iptables_reader.specs.declared.table.Asked.{Asked}
 use Rattle.list_tool.specs.declared.status.ListFault.{ListFault}
 use Rattle.list_tool.specs.declared.status.ListKind.TheVariants.{NoPrefix, TextTooLong}
 use Rattle.list_tool.specs.declared.status.Refusal.{Refusal}
 use Rattle.list_tool.specs.declared.status.Refusal.TheVariants as refusal
-use Rattle.list_tool.specs.Listing.{◌>>=◌, at_line, family_of, rules_in}
+use Rattle.list_tool.specs.Listing.{◌>>=◌, at_line, family_of, rules_for}
 use Rattle.list_tool.specs.Words.{Request}
 
 -- what is said is a fault of the list, or there is no memory
@@ -43,9 +41,10 @@ abbrev pub text_or_none : Option (List ℕ) → List ℕ
 text_or_none None = []
 text_or_none (Some text) = text
 
--- the text of the line of a number, from 1
+-- the text of the line of a number, from 1; 0 is that of the rule for what no line decides
 abbrev pub line_text : List (List ℕ) → ℕ → List ℕ
-line_text lines number = if number == 0 then [] else text_or_none (slice_get lines (number - 1))
+line_text lines number =
+    if number == 0 then codes "what no line decides" else text_or_none (slice_get lines (number - 1))
 
 -- the text of a rule's line, where that is another than the line before
 abbrev pub comment_of : List (List ℕ) → ℕ → ℕ → Option (List ℕ)
@@ -87,15 +86,6 @@ abbrev pub text_of_rules : Family → List ℕ → List RuleView → List RuleVi
 text_of_rules its bytes by_line rules =
     unless_odd (first_odd its by_line 0 rules) rules >>= λ kept.
     within_limit (list_text its (commented (lines_of bytes) by_line 0 kept))
-
--- what the reader of a form is asked for
-abbrev pub asked_for : Request → Answers → Asked
-asked_for request its = record { family = family_of request.form; answers = its }
-
--- the rules that a request asks for, with such answers
-abbrev pub rules_for : Request → List ℕ → Answers → Result (List RuleView) ListFault
-rules_for request bytes its =
-    rules_in (asked_for request its) request.options.assumed request.chain bytes
 
 -- the text of the rule file that is asked for, by the bytes of the list
 abbrev pub text_of : Request → List ℕ → Result (List ℕ) ListFault

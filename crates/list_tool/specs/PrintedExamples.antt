@@ -65,6 +65,17 @@ with_verdicts : text_of_rules Ip4 list by_line by_verdict
 unfolding list digits
 with_verdicts = refl
 
+-- the rule for what no line decides says so
+at_the_end :
+    (let rules = of_ip4 2 3 0 0 (Bitmask 17 255) (Range 53 53) ∷ of_ip4 1 0 0 0 (Bitmask 0 0) (Range 0 65535) ∷ [] in
+    text_of_rules Ip4 list rules rules)
+    ≡ Ok (codes "# -A INPUT -p udp -m udp --dport 53 -j ACCEPT\n"
+    ++ codes "@0.0.0.0/0\t0.0.0.0/0\t0 : 65535\t53 : 53\t0x11/0xFF\tpri=2 cat=65535 data=3\n"
+    ++ codes "# what no line decides\n"
+    ++ codes "@0.0.0.0/0\t0.0.0.0/0\t0 : 65535\t0 : 65535\t0x00/0x00\tpri=1 cat=65535 data=0\n")
+unfolding list digits
+at_the_end = refl
+
 -- no rules, no text
 of_nothing : text_of_rules Ip4 list [] [] ≡ Ok []
 unfolding list

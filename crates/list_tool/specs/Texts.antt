@@ -9,14 +9,15 @@ use Rattle.printed_lists.specs.Listed.{lists_of}
 use Rattle.iptables_reader.specs.declared.table.Answers.{Answers}
 use Rattle.list_tool.specs.declared.status.Refusal.{Refusal}
 use Rattle.list_tool.specs.Decides.{IsRuleFileOf, Listed}
-use Rattle.list_tool.specs.Printed.{Refuses, asked_for, rules_for, text_of, text_of_rules}
+use Rattle.list_tool.specs.Listing.{rules_for}
+use Rattle.list_tool.specs.Printed.{Refuses, text_of, text_of_rules}
 use Rattle.list_tool.specs.Words.{Request}
 
 -- A set has the rules that a request asks for, with such answers, and they decide as the list does.
 pub record ListedFor (request : Request) (bytes : List ℕ) (its : Answers) (set : RuleSetView)
     : Type 0 where
   pub rules : rules_for request bytes its ≡ Ok set.rules
-  pub listed : Listed (asked_for request its) request.options.assumed request.chain bytes set
+  pub listed : Listed request its bytes set
 
 -- A result is the text of these rules, which is read as them; or their fault, or want of memory.
 pub record IsTextOfRules (its : Family) (bytes : List ℕ) (by_line rules : List RuleView)

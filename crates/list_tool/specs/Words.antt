@@ -1,5 +1,5 @@
--- What the words of a command line ask for: a form, the names of a file and of one of its chains, and
--- options. They are read from left to right, and the first fault decides.
+-- What the words of a command line ask for: a form, the names of a file and of one of its chains or
+-- lists, and options. They are read from left to right, and the first fault decides.
 use Rattle.std.specs.Prelude.{ℕ, ◌+◌, Bool, if◌then◌else◌, List, [], ◌∷◌, length, take, drop, codes}
 use Rattle.std.specs.Prelude.{Option, Some, None, Result, Ok, Err}
 use Rattle.std.specs.Option.{option_len, unwrap_or}
@@ -12,7 +12,7 @@ use Rattle.command_words.specs.declared.usage_fault.UsageKind.TheVariants.{Repea
 use Rattle.iptables_reader.specs.declared.table.Answers.{Answers}
 use Rattle.iptables_reader.specs.declared.table.Answers.TheVariants.{Line, Verdict}
 use Rattle.list_tool.specs.declared.words.Form.{Form}
-use Rattle.list_tool.specs.declared.words.Form.TheVariants.{Iptables, Ip6tables}
+use Rattle.list_tool.specs.declared.words.Form.TheVariants.{Iptables, Ip6tables, Cisco}
 use Rattle.iptables_reader.specs.Assumed.{is_assumption}
 
 -- what the userdata of rules is, and what is assumed of packets beside their bytes
@@ -35,7 +35,8 @@ fault_at word kind = record { word = word; kind = kind }
 abbrev pub form_named : List ℕ → Option Form
 form_named word =
     if bytes_eq word (codes "iptables") then Some Iptables
-    else (if bytes_eq word (codes "ip6tables") then Some Ip6tables else None)
+    else (if bytes_eq word (codes "ip6tables") then Some Ip6tables
+    else (if bytes_eq word (codes "cisco") then Some Cisco else None))
 
 -- ---- options
 

@@ -7,7 +7,7 @@ use Rattle.command_words.specs.declared.usage_fault.UsageKind.TheVariants.{Repea
 use Rattle.iptables_reader.specs.declared.table.Answers.{Answers}
 use Rattle.iptables_reader.specs.declared.table.Answers.TheVariants.{Line, Verdict}
 use Rattle.list_tool.specs.declared.words.Form.{Form}
-use Rattle.list_tool.specs.declared.words.Form.TheVariants.{Iptables, Ip6tables}
+use Rattle.list_tool.specs.declared.words.Form.TheVariants.{Iptables, Ip6tables, Cisco}
 use Rattle.list_tool.specs.Words.{Request, command, fault_at}
 
 -- the chain INPUT of the list fw.list, where nothing is assumed
@@ -29,6 +29,9 @@ by_line = refl
 of_ip6 : after (codes "ip6tables") [] ≡ asked Ip6tables Line
 of_ip6 = refl
 
+of_cisco : after (codes "cisco") [] ≡ asked Cisco Line
+of_cisco = refl
+
 by_verdict : after (codes "iptables") (codes "data=verdict" ∷ []) ≡ asked Iptables Verdict
 by_verdict = refl
 
@@ -40,7 +43,7 @@ nothing_assumed = refl
 no_words : command [] ≡ Err (fault_at 1 MissingCommand)
 no_words = refl
 
-other_form : after (codes "cisco") [] ≡ Err (fault_at 1 UnknownCommand)
+other_form : after (codes "asa") [] ≡ Err (fault_at 1 UnknownCommand)
 other_form = refl
 
 no_file : command (codes "iptables" ∷ []) ≡ Err (fault_at 2 MissingName)

@@ -1,4 +1,4 @@
-//! a firewall's list and the name of one of its chains → a rule file that decides as the chain does
+//! a firewall's or router's list and a chain's name → a rule file that decides as the chain does
 //!
 //! [`run_lists`] reads the words, reads the list through a desk, and puts a rule file to the output,
 //! or one line that names the cause. [`run_list_program`] is all that a `main` has to call.

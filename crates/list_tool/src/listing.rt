@@ -1,20 +1,25 @@
 //! A list in, the rules of one of its chains out.
 
 ghost use Rattle.std.specs.Prelude.{◌≡◌, ◌<◌, length, IfErr, IfOk, Ok};
-ghost use Rattle.classbench_reader.specs.Print.{fields_of};
+ghost use Rattle.cisco_reader.specs.Packets.{list_of};
 ghost use Rattle.iptables_reader.specs.Table.{chains_of};
-ghost use Rattle.list_tool.specs.Listing.{at_line, family_of, line_of_place};
-ghost use Rattle.list_tool.specs.Listing.{or_unread, refusal_of, rules_in, start_of};
+ghost use Rattle.list_tool.specs.Listing.{at_line, configured_way, entries_way, entry_answers, family_of};
+ghost use Rattle.list_tool.specs.Listing.{layout_of, line_of_place, or_unread, or_unread_entry, refusal_of};
+ghost use Rattle.list_tool.specs.Listing.{rules_for, saved_way, start_of, unsaid_end, way_of};
 ghost use Rattle.list_tool.specs.Printed.{Refuses};
 ghost use Rattle.list_tool.specs.Decides.{Listed};
+ghost use Rattle.list_tool.specs.Requests.{request_of};
 
 use crate::status::{ListFault, ListKind, Refusal};
-use crate::words::Form;
+use crate::words::{Form, Request};
+use cisco_reader::{CiscoFault, read_list};
 use field_defs::{Family, Layout, ip4_layout, ip6_layout};
-use iptables_reader::{Asked, IptablesFault, SavedChain, chain_place, chains_alone, read_chains};
+use iptables_reader::{
+    Answers, Asked, IptablesFault, SavedChain, chain_place, chains_alone, read_chains,
+};
 use list_chains::{Chain, ChainsFault, LimitFault, RulePlace, rules_of_chains};
 use rule_set::RuleSet;
-use std::alloc::Global;
+use std::alloc::{AllocError, Global};
 
 /// The place of a chain, and the answer of its policy.
 #[derive(Clone, Copy)]
@@ -23,31 +28,85 @@ struct Start {
     policy: u32,
 }
 
+/// Chains, and which of them packets come to.
+#[derive(Drop)]
+struct Way {
+    chains: Vec<Chain>,
+    start: Start,
+}
+
 /// The family of the packets of a form.
 pub(crate) fn family_of(form: Form) -> Family
     ensures { result ≡ family_of form }
 {
     match form {
-        Form::Iptables => Family::Ip4,
+        Form::Iptables | Form::Cisco => Family::Ip4,
         Form::Ip6tables => Family::Ip6,
     }
 }
 
-/// The rules of the chain of a name, as a set whose winner answers as the list does.
-///
-/// `assumed` says what packets have beside their bytes. It takes memory in proportion to the list
-/// and its rules.
+/// The rules that a request asks for, with such answers, as a set whose winner answers as the list
+/// does. It takes memory in proportion to the list and its rules.
 pub(crate) fn listed_rules(
+    alloc: Global,
+    bytes: &[u8],
+    request: &Request,
+    answers: Answers,
+) -> Result<RuleSet, Refusal>
+    ensures rules { IfOk result
+        (λ set. rules_for (request_of request.now) bytes.now answers ≡ Ok set.rules) }
+    ensures listed { IfOk result (Listed (request_of request.now) answers bytes.now) }
+    ensures refused { IfErr result
+        (Refuses (rules_for (request_of request.now) bytes.now answers)) }
+{
+    let way = way_of(alloc, bytes, request, answers)?;
+    let layout = layout_of(request.form);
+    match rules_of_chains(
+        alloc,
+        layout,
+        &way.chains,
+        way.start.place,
+        way.start.policy,
+    ) {
+        Ok(set) => Ok(set),
+        Err(fault) => Err(unturned(&way.chains, fault)),
+    }
+}
+
+/// What a list says of the chain or the list that a request names.
+fn way_of(alloc: Global, bytes: &[u8], request: &Request, answers: Answers) -> Result<Way, Refusal>
+    ensures way { IfOk result (λ way. way_of (request_of request.now) answers bytes.now
+        ≡ Ok (record { chains = way.chains.items; start = way.start })) }
+    ensures within { IfOk result (λ way. way.start.place < length way.chains.items) }
+    ensures refused { IfErr result
+        (Refuses (way_of (request_of request.now) answers bytes.now)) }
+{
+    let name = request.chain.as_bytes();
+    let asked = Asked {
+        family: family_of(request.form),
+        answers,
+    };
+    match request.form {
+        Form::Iptables | Form::Ip6tables => {
+            saved_way(alloc, bytes, asked, request.options.assumed, name)
+        }
+        Form::Cisco => configured_way(alloc, bytes, answers, name),
+    }
+}
+
+/// The chains of a saved list, and the one of a name.
+fn saved_way(
     alloc: Global,
     bytes: &[u8],
     asked: Asked,
     assumed: &[u8],
     name: &[u8],
-) -> Result<RuleSet, Refusal>
-    ensures rules { IfOk result
-        (λ set. rules_in asked assumed.now name.now bytes.now ≡ Ok set.rules) }
-    ensures listed { IfOk result (Listed asked assumed.now name.now bytes.now) }
-    ensures refused { IfErr result (Refuses (rules_in asked assumed.now name.now bytes.now)) }
+) -> Result<Way, Refusal>
+    ensures way { IfOk result (λ way. saved_way asked assumed.now name.now bytes.now
+        ≡ Ok (record { chains = way.chains.items; start = way.start })) }
+    ensures within { IfOk result (λ way. way.start.place < length way.chains.items) }
+    ensures refused { IfErr result
+        (Refuses (saved_way asked assumed.now name.now bytes.now)) }
 {
     let saved = saved_chains(alloc, bytes, asked, assumed, name)?;
     let start = match start_of(&saved, name) {
@@ -55,14 +114,10 @@ pub(crate) fn listed_rules(
         Err(fault) => return Err(Refusal::Fault(fault)),
     };
     let chains = chains_alone(alloc, saved)?;
-    let layout = layout_of(asked.family);
-    match rules_of_chains(alloc, layout, &chains, start.place, start.policy) {
-        Ok(set) => Ok(set),
-        Err(fault) => Err(unturned(&chains, fault)),
-    }
+    Ok(Way { chains, start })
 }
 
-/// The chains of a list, for packets that come to the chain of a name.
+/// The chains of a saved list, for packets that come to the chain of a name.
 fn saved_chains(
     alloc: Global,
     bytes: &[u8],
@@ -83,6 +138,68 @@ fn saved_chains(
         })),
         Err(IptablesFault::OutOfMemory) => Err(Refusal::OutOfMemory),
     }
+}
+
+/// The list of a name in a configuration, as the only chain.
+fn configured_way(
+    alloc: Global,
+    bytes: &[u8],
+    answers: Answers,
+    name: &[u8],
+) -> Result<Way, Refusal>
+    ensures way { IfOk result (λ way. configured_way answers name.now bytes.now
+        ≡ Ok (record { chains = way.chains.items; start = way.start })) }
+    ensures within { IfOk result (λ way. way.start.place < length way.chains.items) }
+    ensures refused { IfErr result (Refuses (configured_way answers name.now bytes.now)) }
+{
+    match read_list(alloc, bytes, name, entry_answers(answers)) {
+        Ok(entries) => {
+            let way = entries_way(alloc, entries, answers)?;
+            Ok(way)
+        }
+        Err(CiscoFault::Line(fault)) => Err(Refusal::Fault(ListFault {
+            line: fault.line,
+            kind: ListKind::CiscoLine(fault.kind),
+        })),
+        Err(CiscoFault::OutOfMemory) => Err(Refusal::OutOfMemory),
+    }
+}
+
+/// What the answers of entries are.
+fn entry_answers(answers: Answers) -> cisco_reader::Answers
+    ensures { result ≡ entry_answers answers }
+{
+    match answers {
+        Answers::Line => cisco_reader::Answers::Line,
+        Answers::Verdict => cisco_reader::Answers::Verdict,
+    }
+}
+
+/// The answer for packets that no entry of a list catches, which are denied.
+///
+/// Source: Cisco IOS Security Configuration Guide, "IP Access List Overview".
+fn unsaid_end(answers: Answers) -> u32
+    ensures { result ≡ unsaid_end answers }
+{
+    match answers {
+        Answers::Line => 0,
+        Answers::Verdict => 2,
+    }
+}
+
+/// The entries of a list as the only chain.
+fn entries_way(alloc: Global, entries: Chain, answers: Answers) -> Result<Way, AllocError>
+    ensures way { IfOk result (λ way. entries_way answers entries
+        ≡ record { chains = way.chains.items; start = way.start }) }
+    ensures within { IfOk result (λ way. way.start.place < length way.chains.items) }
+{
+    let mut chains = Vec::new(alloc);
+    chains.push(entries)?;
+    let start = Start {
+        place: 0,
+        policy: unsaid_end(answers),
+    };
+    Ok(Way { chains, start })
 }
 
 /// The chain of a name, to which packets come by themselves. It takes no memory.
@@ -106,11 +223,11 @@ pub(crate) fn of_no_line(kind: ListKind) -> ListFault
     ListFault { line: 0, kind }
 }
 
-/// The layout of a family.
-fn layout_of(family: Family) -> Layout
-    ensures { result ≡ fields_of family }
+/// The layout of a form's packets.
+fn layout_of(form: Form) -> Layout
+    ensures { result ≡ layout_of form }
 {
-    match family {
+    match family_of(form) {
         Family::Ip4 => ip4_layout(),
         Family::Ip6 => ip6_layout(),
     }

@@ -3,7 +3,7 @@
 ghost use Rattle.std.specs.Prelude.{◌≡◌, ◌≤◌, length, take};
 ghost use Rattle.acl_report.specs.declared.line.TheConstants.{LINE_ROOM};
 ghost use Rattle.command_ending.specs.Message.{usage_text};
-ghost use Rattle.list_tool.specs.Message.{list_text, message, numbered, table_text};
+ghost use Rattle.list_tool.specs.Message.{cisco_text, list_text, message, numbered, table_text};
 
 use crate::status::{ListKind, ListStatus};
 use acl_report::{LINE_ROOM, append, append_number};
@@ -67,6 +67,7 @@ fn list_kind(kind: ListKind) -> &'static [u8]
 {
     match kind {
         ListKind::Line(fault) => table_kind(fault),
+        ListKind::CiscoLine(fault) => cisco_kind(fault),
         ListKind::NoChain => b"no such chain",
         ListKind::NoPolicy => b"chain without a policy",
         ListKind::NoTarget => b"target not there",
@@ -112,5 +113,38 @@ fn table_kind(fault: LineKind) -> &'static [u8]
         LineKind::NeedsState => b"state not assumed",
         LineKind::NeedsLocal => b"local addresses not assumed",
         LineKind::CantSay => b"matches what no rule file says",
+    }
+}
+
+fn cisco_kind(fault: cisco_reader::LineKind) -> &'static [u8]
+    ensures text { result.now ≡ cisco_text fault }
+    ensures short { length result.now ≤ 40 }
+{
+    match fault {
+        cisco_reader::LineKind::FileTooLong => b"file too long",
+        cisco_reader::LineKind::NoList => b"no such list",
+        cisco_reader::LineKind::NoEntries => b"list without entries",
+        cisco_reader::LineKind::NotExtended => b"no extended list of IPv4",
+        cisco_reader::LineKind::BadList => b"no list or entry of one",
+        cisco_reader::LineKind::TakenOut => b"list or entry taken out",
+        cisco_reader::LineKind::StrayEntry => b"entry outside of a list",
+        cisco_reader::LineKind::NoEntry => b"no entry of its list",
+        cisco_reader::LineKind::UnknownLine => b"unknown line",
+        cisco_reader::LineKind::Wrapped => b"may be the end of the entry before",
+        cisco_reader::LineKind::BadSequence => b"bad sequence number",
+        cisco_reader::LineKind::SequenceTwice => b"repeated sequence number",
+        cisco_reader::LineKind::LooseEntry => b"entry before without a sequence number",
+        cisco_reader::LineKind::MissingWord => b"missing word",
+        cisco_reader::LineKind::Group => b"group of objects",
+        cisco_reader::LineKind::BadProtocol => b"bad protocol",
+        cisco_reader::LineKind::ZeroProtocol => b"protocol 0",
+        cisco_reader::LineKind::BadAddress => b"bad address",
+        cisco_reader::LineKind::BadMask => b"bad wildcard mask",
+        cisco_reader::LineKind::BadPort => b"bad port",
+        cisco_reader::LineKind::ManyPorts => b"more than 10 ports",
+        cisco_reader::LineKind::NeedsProtocol => b"ports of another protocol",
+        cisco_reader::LineKind::Compares => b"matches what no rule file says",
+        cisco_reader::LineKind::IcmpType => b"type of ICMP",
+        cisco_reader::LineKind::UnknownWord => b"unknown word",
     }
 }

@@ -7,10 +7,11 @@ ghost use Rattle.classbench_reader.specs.Limits.{max_rule_file};
 ghost use Rattle.classbench_reader.specs.Print.{fields_of, has_prefixes, is_one_prefix};
 ghost use Rattle.classbench_reader.specs.RuleFile.{rule_file_of};
 ghost use Rattle.printed_lists.specs.Listed.{line_views, lists_of};
+ghost use Rattle.list_tool.specs.Listing.{rules_for};
 ghost use Rattle.list_tool.specs.Texts.{IsTextOf, IsTextOfRules, ListedFor};
-ghost use Rattle.list_tool.specs.Printed.{Refuses, after_comment, asked_for, comment_of};
+ghost use Rattle.list_tool.specs.Printed.{Refuses, after_comment, comment_of};
 ghost use Rattle.list_tool.specs.Printed.{commented, first_odd, line_text};
-ghost use Rattle.list_tool.specs.Printed.{number_at, number_before, rules_for, text_of};
+ghost use Rattle.list_tool.specs.Printed.{number_at, number_before, text_of};
 ghost use Rattle.list_tool.specs.Printed.{text_of_rules};
 ghost use Rattle.list_tool.specs.Requests.{request_of};
 
@@ -19,7 +20,7 @@ use crate::status::{ListFault, ListKind, Refusal};
 use crate::words::Request;
 use classbench_reader::MAX_RULE_FILE;
 use field_defs::{Family, FieldValue};
-use iptables_reader::{Answers, Asked};
+use iptables_reader::Answers;
 use printed_lists::{ListLine, put_list};
 use rule_set::{RuleSet, StoredRule};
 use std::alloc::{AllocError, Global};
@@ -85,17 +86,7 @@ fn rules_for(
     ensures refused { IfErr result
         (Refuses (rules_for (request_of request.now) bytes.now answers)) }
 {
-    let asked = Asked {
-        family: family_of(request.form),
-        answers,
-    };
-    listed_rules(
-        alloc,
-        bytes,
-        asked,
-        request.options.assumed,
-        request.chain.as_bytes(),
-    )
+    listed_rules(alloc, bytes, request, answers)
 }
 
 /// The text of some rules, by the lines of the list and the lines of the rules.
@@ -196,12 +187,12 @@ fn number_before(by_line: &[StoredRule], place: usize) -> u32
     }
 }
 
-/// The text of the line of a number, from 1.
+/// The text of the line of a number, from 1. 0 is that of the rule for what no line decides.
 fn line_text<'a>(texts: &[&'a [u8]], number: u32) -> &'a [u8]
     ensures { result.now ≡ line_text (map (λ text. text.now) texts.now) number }
 {
     if number == 0 {
-        return b"";
+        return b"what no line decides";
     }
     match texts.get(number as usize - 1) {
         Some(text) => text,

@@ -18,8 +18,10 @@ pub struct ListFault {
 /// What can't be said in a rule file.
 #[derive(Clone, Copy)]
 pub enum ListKind {
-    /// The line isn't read.
+    /// The line of a saved list isn't read.
     Line(LineKind),
+    /// The line of a configuration isn't read.
+    CiscoLine(cisco_reader::LineKind),
     /// The list has no chain of the name. It stands in no line.
     NoChain,
     /// Packets come to the chain from other chains alone. It stands in no line.

@@ -19,11 +19,13 @@ use command_ending::{Status, read_file};
 use iptables_reader::MAX_LIST;
 use std::alloc::Global;
 
-/// Prints the rule file of a chain of a firewall's list, and tells how that ended.
+/// Prints the rule file of a chain of a firewall's list, or of a list of a router's configuration,
+/// and tells how that ended.
 ///
-/// The words are those after the program's name: `iptables` or `ip6tables`, the name of the list,
-/// the name of a chain that packets come to by themselves, and options: `data=line` or
-/// `data=verdict`, and `assume=`.
+/// The words are those after the program's name: `iptables` or `ip6tables`, the name of the file,
+/// and the name of a chain that packets come to by themselves; or `cisco`, the name of the file, and
+/// the name or the number of an extended list of IPv4. Then options: `data=line` or `data=verdict`,
+/// and `assume=`, which changes nothing for `cisco`.
 ///
 /// The list is read through `desk`. What is put to `out` is a rule file whose winner has, for every
 /// packet of the family, the number of the line that decides, or its verdict. Above its rules stand

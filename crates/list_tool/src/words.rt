@@ -1,4 +1,4 @@
-//! The words of a command line: a form, the names of a file and of a chain, and options.
+//! The words of a command line: a form, the names of a file and of a chain or list, and options.
 
 ghost use Rattle.std.specs.Prelude.{◌≡◌, ◌+◌, ◌≤◌, Ok, Err, None, IfErr, IfOk, map, string_bytes};
 ghost use Rattle.list_tool.specs.Words.{answers_named, command, form_named, given_len, none_given};
@@ -16,6 +16,8 @@ pub enum Form {
     Iptables,
     /// What ip6tables-save prints.
     Ip6tables,
+    /// A configuration of Cisco IOS.
+    Cisco,
 }
 
 /// What is asked for: the rule file of a chain of a list.
@@ -68,6 +70,7 @@ fn form_named(word: &str) -> Option<Form>
     match word {
         "iptables" => Some(Form::Iptables),
         "ip6tables" => Some(Form::Ip6tables),
+        "cisco" => Some(Form::Cisco),
         _ => None,
     }
 }
