@@ -7,7 +7,6 @@ use Rattle.cisco_reader.specs.declared.fault.LineKind.{LineKind}
 use Rattle.cisco_reader.specs.declared.fault.Stop.{Stop}
 use Rattle.cisco_reader.specs.declared.fault.Stop.TheVariants as stopped
 use Rattle.cisco_reader.specs.declared.fault.CiscoFault.TheVariants.{Line, OutOfMemory}
-use Rattle.cisco_reader.specs.declared.sequence.Placed.{Placed}
 use Rattle.cisco_reader.specs.Stops.{Refuses, fault_of}
 use Rattle.cisco_reader.specs.Lists.{ListSoFar, ended, entries_of, line_then, max_list, no_list, with_line, with_lines}
 

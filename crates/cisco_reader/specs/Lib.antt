@@ -1,6 +1,7 @@
 pub mod Read
 pub mod Names
 pub mod Wildcard
+pub mod WildcardExamples
 pub mod PortList
 pub mod Ports
 pub mod Entry
@@ -10,3 +11,5 @@ pub mod Stops
 pub mod Sequence
 pub mod Lists
 pub mod Packets
+pub mod PacketsExamples
+pub mod ListsExamples

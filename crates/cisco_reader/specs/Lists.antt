@@ -2,7 +2,7 @@
 -- "access-list (IP extended)" and "ip access-list"). Other lists, and other parts of a
 -- configuration, have no part in it.
 use Rattle.std.specs.Prelude.{ℕ, ◌+◌, ◌==◌, Bool, true, false, not, ◌||◌, nat_lt, max}
-use Rattle.std.specs.Prelude.{if◌then◌else◌, codes, List, [], ◌∷◌, length, drop, Option, None, Result, Ok, Err}
+use Rattle.std.specs.Prelude.{if◌then◌else◌, codes, List, [], ◌∷◌, length, drop, Option, Result, Ok, Err}
 use Rattle.std.specs.List.{insert}
 use Rattle.std.specs.Str.{bytes_eq}
 use Rattle.text_scan.specs.Parts.{lines_of, words_of}

@@ -1,0 +1,185 @@
+-- Examples of configurations, each checked by evaluation: lists as devices write them, what their
+-- entries say, and the faults of others. Masks have examples of their own.
+use Rattle.std.specs.Prelude.{◌≡◌, ℕ, ◌++◌, List, [], ◌∷◌, codes, true, false, Some, None, Result, Ok, Err, refl}
+use Rattle.std.specs.Fmt.{digits}
+use Rattle.list_chains.specs.declared.span.Span.{Span}
+use Rattle.cisco_reader.specs.declared.entry.Side.{Side}
+use Rattle.cisco_reader.specs.declared.entry.Verdict.{Verdict}
+use Rattle.cisco_reader.specs.declared.entry.Verdict.TheVariants.{Permit, Deny}
+use Rattle.cisco_reader.specs.declared.fault.LineFault.{LineFault}
+use Rattle.cisco_reader.specs.declared.fault.LineKind.{LineKind}
+use Rattle.cisco_reader.specs.declared.fault.LineKind.TheVariants as kind
+use Rattle.cisco_reader.specs.declared.sequence.Placed.{Placed}
+use Rattle.cisco_reader.specs.Entry.{log_words}
+use Rattle.cisco_reader.specs.Heads.{begins_part, is_end, is_entry, is_ip, is_named, named_words, part_words}
+use Rattle.cisco_reader.specs.Lists.{entries_of, entry_words, is_unread, setting_words, unread_kinds, with_lines}
+use Rattle.cisco_reader.specs.Names.{compared_words, is_among, number_named, port_table, protocol_table}
+
+-- the numbers from one to another
+infixl 20 ◌to◌
+abbrev ◌to◌ : ℕ → ℕ → Span
+low to high = record { low = low; high = high }
+
+-- all addresses
+abbrev any : Side
+any = record { addresses = record { base = 0; free = 4294967295 }; ports = None }
+
+-- one address
+abbrev host : ℕ → Side
+host address = record { addresses = record { base = address; free = 0 }; ports = None }
+
+-- the same with ports
+abbrev ported : Side → List Span → Side
+ported side ports = record side { ports = Some (record { negated = false; ports = ports }) }
+
+-- all ports but some
+abbrev but : Side → List Span → Side
+but side ports = record side { ports = Some (record { negated = true; ports = ports }) }
+
+-- an entry by its number, its line, and what it says
+abbrev entry : ℕ → ℕ → Verdict → Span → Side → Side → Placed
+entry sequence line verdict protocol source destination = record {
+  sequence = sequence;
+  line = line;
+  entry = record { verdict = verdict; protocol = protocol; source = source; destination = destination };
+}
+
+-- what the list A says
+abbrev said_by : List ℕ → Result (List Placed) LineFault
+said_by text = entries_of (codes "A") text
+
+-- what it says where one entry stands in its second line
+abbrev one : List ℕ → Result (List Placed) LineFault
+one line = said_by (codes "ip access-list extended A\n " ++ line ++ codes "\n")
+
+-- a fault of a line
+abbrev faulty : ℕ → LineKind → Result (List Placed) LineFault
+faulty line kind = Err (record { line = line; kind = kind })
+
+-- ---- lists
+
+-- numbered: the entries are those of list 101 alone
+numbered : entries_of (codes "101")
+    (codes "access-list 101 permit tcp host 10.1.0.7 any eq 22\naccess-list 102 deny ip any any\n"
+    ++ codes "access-list 101 remark the rest is refused\naccess-list 101 deny   udp any any eq ntp\n")
+    ≡ Ok (entry 10 1 Permit (6 to 6) (host 167837703) (ported any ((22 to 22) ∷ []))
+    ∷ entry 20 4 Deny (17 to 17) any (ported any ((123 to 123) ∷ [])) ∷ [])
+unfolding with_lines digits is_among number_named port_table protocol_table compared_words
+    log_words is_entry is_end is_named named_words begins_part part_words entry_words
+numbered = refl
+
+-- named: entries stand in the order of their numbers, and one without comes last
+in_order : said_by (codes "ip access-list extended A\n20 permit tcp any any\n"
+    ++ codes "10 permit udp any any\n permit gre any any\n")
+    ≡ Ok (entry 10 3 Permit (17 to 17) any any ∷ entry 20 2 Permit (6 to 6) any any
+    ∷ entry 30 4 Permit (47 to 47) any any ∷ [])
+unfolding with_lines digits is_among number_named port_table protocol_table compared_words
+    log_words is_entry is_end is_named named_words begins_part part_words entry_words
+in_order = refl
+
+-- comments and other parts say nothing
+around : said_by (codes "hostname edge\r\n!\r\ninterface Gi0/0\r\n ip access-group A in\r\n"
+    ++ codes "ip access-list extended A\r\n!\r\n permit ip any any\r\nend\r\n")
+    ≡ Ok (entry 10 7 Permit (0 to 255) any any ∷ [])
+unfolding with_lines digits is_among number_named port_table protocol_table compared_words
+    log_words is_entry is_end is_ip is_named named_words begins_part part_words entry_words
+around = refl
+
+-- ---- entries
+
+-- ports by name and by number after eq
+many_ports : one (codes "permit tcp any host 192.0.2.10 eq www 443")
+    ≡ Ok (entry 10 2 Permit (6 to 6) any (ported (host 3221225994) ((80 to 80) ∷ (443 to 443) ∷ [])) ∷ [])
+unfolding with_lines digits is_among number_named port_table protocol_table compared_words
+    log_words is_entry is_end is_named named_words begins_part part_words entry_words
+many_ports = refl
+
+-- the ports after neq are left out
+not_equal : one (codes "permit tcp any neq telnet any log-input Cookie")
+    ≡ Ok (entry 10 2 Permit (6 to 6) (but any ((23 to 23) ∷ [])) any ∷ [])
+unfolding with_lines digits is_among number_named port_table protocol_table compared_words
+    log_words is_entry is_end is_named named_words begins_part part_words entry_words
+not_equal = refl
+
+-- ports above, below and between others
+above_and_between : one (codes "permit udp any gt 1023 any range 53 80")
+    ≡ Ok (entry 10 2 Permit (17 to 17) (ported any ((1024 to 65535) ∷ [])) (ported any ((53 to 80) ∷ [])) ∷ [])
+unfolding with_lines digits is_among number_named port_table protocol_table compared_words
+    log_words is_entry is_end is_named named_words begins_part part_words entry_words
+above_and_between = refl
+
+-- no port is below 0
+below : one (codes "deny tcp any lt 1024 any lt 0")
+    ≡ Ok (entry 10 2 Deny (6 to 6) (ported any ((0 to 1023) ∷ [])) (ported any []) ∷ [])
+unfolding with_lines digits is_among number_named port_table protocol_table compared_words
+    log_words is_entry is_end is_named named_words begins_part part_words entry_words
+below = refl
+
+-- ---- faults
+
+established : one (codes "permit tcp any any established") ≡ faulty 2 kind.Compares
+unfolding with_lines digits is_among number_named port_table protocol_table compared_words
+    log_words is_entry is_end is_named named_words begins_part part_words entry_words
+established = refl
+
+a_type : one (codes "permit icmp any any log 8") ≡ faulty 2 kind.IcmpType
+unfolding with_lines digits is_among number_named port_table protocol_table compared_words
+    log_words is_entry is_end is_named named_words begins_part part_words entry_words
+a_type = refl
+
+no_mask : one (codes "permit ip 10.0.0.1 any") ≡ faulty 2 kind.BadMask
+unfolding with_lines digits is_among number_named port_table protocol_table compared_words
+    log_words is_entry is_end is_named named_words begins_part part_words entry_words
+no_mask = refl
+
+no_port : one (codes "permit tcp any any eq 65536") ≡ faulty 2 kind.BadPort
+unfolding with_lines digits is_among number_named port_table protocol_table compared_words
+    log_words is_entry is_end is_named named_words begins_part part_words entry_words
+no_port = refl
+
+no_ports_of_ip : one (codes "permit ip any any eq 80") ≡ faulty 2 kind.NeedsProtocol
+unfolding with_lines digits is_among number_named port_table protocol_table compared_words
+    log_words is_entry is_end is_named named_words begins_part part_words entry_words
+no_ports_of_ip = refl
+
+twice : one (codes "10 permit tcp any any\n 10 deny ip any any") ≡ faulty 3 kind.SequenceTwice
+unfolding with_lines digits is_among number_named port_table protocol_table compared_words
+    log_words is_entry is_end is_named named_words begins_part part_words entry_words
+twice = refl
+
+standard : said_by (codes "ip access-list standard A\n permit 10.0.0.1\n") ≡ faulty 1 kind.NotExtended
+unfolding with_lines digits is_among number_named port_table protocol_table compared_words
+    log_words is_entry is_end is_named named_words begins_part part_words entry_words
+    is_unread unread_kinds setting_words
+standard = refl
+
+stray : said_by (codes "ip access-list extended A\nexit\n permit ip any any\n") ≡ faulty 3 kind.StrayEntry
+unfolding with_lines digits is_among number_named port_table protocol_table compared_words
+    log_words is_entry is_end is_ip is_named named_words begins_part part_words entry_words
+stray = refl
+
+taken_out : one (codes "permit tcp any any\nno ip access-list extended A") ≡ faulty 3 kind.TakenOut
+unfolding with_lines digits is_among number_named port_table protocol_table compared_words
+    log_words is_entry is_end is_ip is_named named_words begins_part part_words entry_words
+taken_out = refl
+
+unknown : said_by (codes "some text\n") ≡ faulty 1 kind.UnknownLine
+unfolding with_lines digits is_among number_named port_table protocol_table compared_words
+    log_words is_entry is_end is_ip is_named named_words begins_part part_words entry_words
+unknown = refl
+
+other_list : said_by (codes "ip access-list extended B\n permit ip any any\n") ≡ faulty 2 kind.NoList
+unfolding with_lines digits is_among number_named port_table protocol_table compared_words
+    log_words is_entry is_end is_ip is_named named_words begins_part part_words entry_words
+other_list = refl
+
+wrapped : entries_of (codes "101") (codes "access-list 101 permit tcp any any\n eq 443\n") ≡ faulty 2 kind.Wrapped
+unfolding with_lines digits is_among number_named port_table protocol_table compared_words
+    log_words is_entry is_end is_ip is_named named_words begins_part part_words entry_words
+wrapped = refl
+
+of_the_other_device : entries_of (codes "OUT") (codes "access-list OUT extended permit ip any any\n")
+    ≡ faulty 1 kind.BadList
+unfolding with_lines digits is_among number_named port_table protocol_table compared_words
+    log_words is_entry is_end is_ip is_named named_words begins_part part_words entry_words is_unread
+of_the_other_device = refl

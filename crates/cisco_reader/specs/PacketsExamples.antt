@@ -1,0 +1,57 @@
+-- Examples of rules of entries, each checked by evaluation: their addresses stand as spans.
+use Rattle.std.specs.Prelude.{◌≡◌, ℕ, List, [], ◌∷◌, true, Some, refl}
+use Rattle.list_chains.specs.declared.chain.Target.TheVariants.{Decide}
+use Rattle.list_chains.specs.declared.span.Span.{Span}
+use Rattle.list_chains.specs.Chains.{ListRule}
+use Rattle.cisco_reader.specs.declared.entry.Verdict.TheVariants.{Permit, Deny}
+use Rattle.cisco_reader.specs.declared.packets.Answers.TheVariants.{Line, Verdict}
+use Rattle.cisco_reader.specs.Packets.{EntryParts, all_packets, answer_of, from_ports, from_rules}
+use Rattle.cisco_reader.specs.Packets.{kept_ports, left_ports}
+
+-- the numbers from one to another
+infixl 20 ◌to◌
+abbrev ◌to◌ : ℕ → ℕ → Span
+low to high = record { low = low; high = high }
+
+-- an entry of line 8 for two sources and two destination ports, which leaves one source port out
+abbrev parts : EntryParts
+parts = record {
+  answer = 8;
+  left = from_ports all_packets (23 to 23) ∷ [];
+  sources = (1 to 1) ∷ (4 to 7) ∷ [];
+  destinations = (9 to 9) ∷ [];
+  source_ports = (0 to 65535) ∷ [];
+  destination_ports = (80 to 80) ∷ (443 to 443) ∷ [];
+}
+
+-- its rule for one source and one port
+abbrev rule : Span → Span → ListRule (List Span)
+rule source port = record {
+  userdata = 8;
+  inside = (6 to 6) ∷ source ∷ (9 to 9) ∷ (0 to 65535) ∷ port ∷ [];
+  but = ((0 to 255) ∷ (0 to 4294967295) ∷ (0 to 4294967295) ∷ (23 to 23) ∷ (0 to 65535) ∷ []) ∷ [];
+  target = Decide;
+}
+
+-- one for each pair
+four_rules : from_rules parts (record all_packets { protocol = 6 to 6 })
+    ≡ rule (1 to 1) (80 to 80) ∷ rule (1 to 1) (443 to 443) ∷ rule (4 to 7) (80 to 80)
+    ∷ rule (4 to 7) (443 to 443) ∷ []
+four_rules = refl
+
+-- after neq all ports are in the box, and those that are named are left out of it
+kept : kept_ports (Some (record { negated = true; ports = (23 to 23) ∷ [] })) ≡ (0 to 65535) ∷ []
+kept = refl
+
+left : left_ports (Some (record { negated = true; ports = (23 to 23) ∷ [] })) ≡ (23 to 23) ∷ []
+left = refl
+
+-- the answer is the line, or the verdict
+by_line : answer_of Line 8 Deny ≡ 8
+by_line = refl
+
+permitted : answer_of Verdict 8 Permit ≡ 1
+permitted = refl
+
+denied : answer_of Verdict 8 Deny ≡ 2
+denied = refl
