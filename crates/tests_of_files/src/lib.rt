@@ -18,6 +18,7 @@
 //! | `messages` | what each fault says |
 //! | `numbers` | numbers that bytes spell in either order |
 //! | `ranks` | ranks by priorities and places |
+//! | `router_lists` | lists of Cisco IOS, and the packets that they decide |
 //! | `rule_files` | rule files as people write them, printed rules and lists |
 //! | `saved_lists` | lists of iptables-save, and the packets that they decide |
 //! | `stored` | rules that are stored |
@@ -45,6 +46,8 @@ mod messages;
 mod numbers;
 #[cfg(test)]
 mod ranks;
+#[cfg(test)]
+mod router_lists;
 #[cfg(test)]
 mod rule_files;
 #[cfg(test)]
