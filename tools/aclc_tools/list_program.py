@@ -1,8 +1,8 @@
 # SPDX-License-Identifier: BSD-3-Clause
 """The proved program aclc-lists: where it is, which lists it is asked for, and the rule file that it writes.
 
-The tools read a list first: the chain and the family that are meant, and what its other tables do. The program is handed
-the table filter alone, in which each line keeps its number.
+The tools read a list first: the chain or the list and the family that are meant, and what its other tables do. Of a
+table the program is handed filter alone, in which each line keeps its number.
 """
 import os
 import re
@@ -15,7 +15,7 @@ from aclc_tools.lists import printable
 from aclc_tools.program import TOP, leave
 
 BUILT = TOP / "crates" / "aclc_lists" / "out" / "aclc_lists"
-WORDS = {4: "iptables", 6: "ip6tables"}
+WORDS = {("iptables", 4): "iptables", ("iptables", 6): "ip6tables", ("cisco", 4): "cisco", ("cisco", 6): "cisco"}
 DONE, REFUSED = 0, 3
 SAID = re.compile(r"aclc-lists: list: line (\d+): (.*)\n")
 # What came of a list: the lines of the program's rule file, or the number of the line that it refuses and why.
@@ -33,8 +33,8 @@ def built_list_program():
 
 def takes(options):
     """Whether it is asked for what options say."""
-    return (options.form == "iptables" and options.table in (None, "filter") and not options.lenient
-            and options.data in ("line", "verdict"))
+    return ((options.form == "cisco" or options.form == "iptables" and options.table in (None, "filter"))
+            and not options.lenient and options.data in ("line", "verdict"))
 
 
 def filter_alone(text):
@@ -48,20 +48,25 @@ def filter_alone(text):
     return "\n".join(kept)
 
 
+def handed(options, text):
+    """What the program is given of a list."""
+    return filter_alone(text) if options.form == "iptables" else text
+
+
 def head_of(options, family, chain):
     """The first comment of a rule file."""
     data = {"line": "the line that decides", "verdict": "1 where a rule accepts, 2 where it drops, 3 where it rejects"}
-    yield (f"# Made by aclc-lists {WORDS[family]} of {Path(options.file).name}, {chain}. "
+    yield (f"# Made by aclc-lists {WORDS[options.form, family]} of {Path(options.file).name}, {chain}. "
            f"Userdata is {data[options.data]}.")
     if assume.of(options).told():
         yield f"# Assumed: {assume.of(options).told()}."
 
 
 def written(options, text, family, chain):
-    """What the program makes of a chain of a list that it takes; what isn't the list's own fault ends the tool."""
+    """What the program makes of a chain or a list that it takes; what isn't the list's own fault ends the tool."""
     told = assume.of(options).told()
-    words = [WORDS[family], "/dev/stdin", chain, f"data={options.data}"] + [f"assume={told}"] * bool(told)
-    done = subprocess.run([str(built_list_program()), *words], input=filter_alone(text).encode(), stdout=subprocess.PIPE,
+    words = [WORDS[options.form, family], "/dev/stdin", chain, f"data={options.data}"] + [f"assume={told}"] * bool(told)
+    done = subprocess.run([str(built_list_program()), *words], input=handed(options, text).encode(), stdout=subprocess.PIPE,
                           stderr=subprocess.PIPE)
     said = done.stderr.decode(errors="replace")
     if done.returncode == REFUSED and SAID.fullmatch(said):

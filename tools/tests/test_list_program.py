@@ -1,19 +1,23 @@
 # SPDX-License-Identifier: BSD-3-Clause
 """The program aclc-lists beside tools/convert and the lists' own judge, and tools/convert where it asks the program."""
 import random
+import re
 import subprocess
 import tempfile
 import unittest
 from pathlib import Path
 
 import damages
+import draws_cisco
 import draws_iptables
 import list_programs
+import test_cisco
 from aclc_tools import list_program
 from converting import DATA, decided, rules_of
 from tool import tool
 
-DRAWN, DAMAGED, SEED = 200, 200, 53
+DRAWN, SEED = 200, 53
+DAMAGED = {"iptables": 200, "cisco": 1000}
 # The shipped lists, and the rules that they become.
 SHIPPED = zip(draws_iptables.SHIPPED, ("gateway.rules", "gateway6.rules", "server.rules"))
 LIST = ("*nat\n:PREROUTING ACCEPT [0:0]\nCOMMIT\n*filter\n:INPUT DROP [0:0]\n-A INPUT -s 10.0.0.1/32 -j ACCEPT\nCOMMIT\n"
@@ -31,9 +35,10 @@ BUILT = unittest.skipUnless(list_program.built_list_program(), "the program aclc
 
 
 GATEWAY = str(DATA / "gateway.iptables-save")
+EDGE = str(DATA / "edge.cisco")
 # Words, and how the program ends with them, and what it says.
 ENDS = (
-    ([], 2, "usage: word 1: missing command"), (["cisco", GATEWAY, "x"], 2, "usage: word 1: unknown command"),
+    ([], 2, "usage: word 1: missing command"), (["asa", GATEWAY, "x"], 2, "usage: word 1: unknown command"),
     (["iptables"], 2, "usage: word 2: missing name"), (["iptables", GATEWAY], 2, "usage: word 3: missing name"),
     (["iptables", GATEWAY, "FORWARD", "lenient"], 2, "usage: word 4: unknown option"),
     (["iptables", GATEWAY, "FORWARD", "data=line", "data=7"], 2, "usage: word 5: repeated option"),
@@ -43,7 +48,15 @@ ENDS = (
     (["iptables", GATEWAY, "trusted"], 3, "list: line 0: chain without a policy"),
     (["ip6tables", GATEWAY, "FORWARD"], 3, "list: line 9: bad address"),
     (["iptables", str(DATA / "server.iptables-save"), "INPUT", "assume=in=eth0"], 3, "list: line 9: state not assumed"),
+    (["cisco", EDGE], 2, "usage: word 3: missing name"),
+    (["cisco", EDGE, "NONE"], 3, "list: line 35: no such list"),
+    (["cisco", EDGE, "WEB6"], 3, "list: line 23: no extended list of IPv4"),
+    (["cisco", EDGE, "WITH-STATE"], 3, "list: line 30: matches what no rule file says"),
+    (["cisco", str(DATA / "branch.cisco"), "TO-SERVERS"], 3, "list: line 33: unknown line"),
 )
+# Lists that the tools refuse for what has no part in the list that is asked for, and the program takes: a line near one
+# that begins a list, and a list beside another, of which one has to be named.
+OF_NO_PART = ("\nip acces-list extended A\n", "\nip access-list extended B\n")
 
 
 class ListProgram(unittest.TestCase):
@@ -76,16 +89,63 @@ class ListProgram(unittest.TestCase):
 
     @BUILT
     def test_drawn_lists_are_taken_and_decide_as_they_say(self):
-        counts, faults = list_programs.outcomes(DRAWN, SEED, False)
-        self.assertEqual(faults, [])
-        self.assertEqual(counts, {"same": DRAWN})
+        for form in list_programs.FORMS:
+            counts, faults = list_programs.outcomes(form, DRAWN, SEED, False)
+            self.assertEqual(faults, [])
+            self.assertEqual(counts, {"same": DRAWN})
 
     @BUILT
     def test_damaged_lists_decide_as_they_say_or_are_refused(self):
-        counts, faults = list_programs.outcomes(DAMAGED, SEED, True)
-        self.assertEqual(faults, [])
-        self.assertGreater(counts["same"], DAMAGED // 10)
-        self.assertGreater(counts["both refuse"], DAMAGED // 10)
+        for form, count in DAMAGED.items():
+            counts, faults = list_programs.outcomes(form, count, SEED, True)
+            self.assertEqual(faults, [])
+            self.assertGreater(counts["same"], count // 10)
+            self.assertGreater(counts["both refuse"], count // 10)
+
+
+class Configurations(unittest.TestCase):
+    """Lists of Cisco's IOS."""
+
+    def alike(self, text, name, data):
+        """The program's rules of a list, which answer as those of the tools; or None where it refuses the list."""
+        options = draws_cisco.options(name, data)
+        made, (wanted, _) = list_programs.by_program(options, text), list_programs.by_converter(options, text)
+        if made is None:
+            return None
+        self.assertIsNotNone(wanted, "the tools refuse the list")
+        rules, expected = rules_of(made), rules_of(wanted)
+        for fields in damages.fields_near(expected, 400, random.Random(SEED)):
+            self.assertEqual(decided(rules, fields) or 0, decided(expected, fields) or 0, fields)
+        return rules
+
+    @BUILT
+    def test_shipped_lists_decide_as_the_expected_files(self):
+        for file, name, expected in draws_cisco.SHIPPED:
+            for data in ("line", "verdict"):
+                with self.subTest(file=file, name=name, data=data):
+                    self.assertIsNotNone(self.alike((DATA / file).read_text(), name, data))
+            made = rules_of(list_programs.by_program(draws_cisco.options(name), (DATA / file).read_text()))
+            wanted = rules_of((DATA / expected).read_text())
+            for fields in damages.fields_near(wanted, 400, random.Random(SEED)):
+                self.assertEqual(decided(made, fields) or 0, decided(wanted, fields) or 0, fields)
+
+    @BUILT
+    def test_lists_that_the_tools_take_decide_as_theirs_or_are_refused(self):
+        taken = 0
+        for form, text, _ in test_cisco.TAKEN:
+            name = re.search(r"access-list (?:extended )?(\S+)", text).group(1)
+            for data in ("line", "verdict") if form == "cisco" else ():
+                with self.subTest(text=text, data=data):
+                    taken += self.alike(text, name, data) is not None
+        self.assertEqual(taken, 10)
+
+    @BUILT
+    def test_lists_that_the_tools_refuse_are_refused(self):
+        for form, text, _, _ in test_cisco.REFUSED:
+            if form == "cisco" and not any(part in text for part in OF_NO_PART):
+                for name in {"A", "101", *re.findall(r"access-list (?:extended )?(\S+)", text)}:
+                    with self.subTest(text=text, name=name):
+                        self.assertIsNone(list_programs.by_program(draws_cisco.options(name), text))
 
 
 class Asking(unittest.TestCase):

@@ -1,0 +1,50 @@
+# SPDX-License-Identifier: BSD-3-Clause
+"""Lists of Cisco's IOS for the program aclc-lists: extended ones without groups, which it doesn't read."""
+import re
+
+import forms_cisco
+import routers
+from aclc_tools.forms import options_of
+from converting import Drawn
+
+# The shipped lists, and the rules that they become.
+SHIPPED = (("edge.cisco", "OUTSIDE-IN", "edge-outside.rules"), ("edge.cisco", "101", "edge-101.rules"))
+
+
+class Walked:
+    """What judges a text."""
+
+    def __init__(self, text):
+        self.text = text
+
+    def decides(self, fields):
+        """The number of the line that decides a packet, or 0."""
+        return forms_cisco.decide(self.text, fields)
+
+
+def without_groups(text):
+    """The text with UDP and all addresses in the place of groups in entries."""
+    text = re.sub(r"(permit|deny *) object-group SERVICES", r"\1 udp", text)
+    return re.sub(r"(permit|deny)( .*)", lambda it: re.sub("object-group [A-Z]+", "any", it.group()), text)
+
+
+def options(name, data="line"):
+    """The options of a list of this name."""
+    return options_of("cisco", "router", list=name, family=4, data=data)
+
+
+def draw(draw):
+    """A configuration with the list 101."""
+    lines = without_groups(forms_cisco.draw(draw)).split("\n")
+    return Drawn(lines, "\n".join, options("101"), Walked, routers.Unknown)
+
+
+def has_no_part(text, number):
+    """Whether a line is one of a group, which no entry names here, or of another list than 101."""
+    begun = [line for line in text.split("\n")[:number] if re.match(r"object-group\b|(ip )?access-list\b", line)]
+    return bool(begun) and not re.match(r"(ip access-list extended|access-list) 101\b", begun[-1])
+
+
+def damaged(draw, lines):
+    """The lines with one of them damaged."""
+    return routers.damage(draw, "\n".join(lines)).split("\n")
