@@ -41,7 +41,12 @@ abbrev entry : ℕ → ℕ → Verdict → Span → Side → Side → Placed
 entry sequence line verdict protocol source destination = record {
   sequence = sequence;
   line = line;
-  entry = record { verdict = verdict; protocol = protocol; source = source; destination = destination };
+  entry = record {
+    verdict = verdict;
+    protocol = protocol;
+    source = source;
+    destination = destination;
+  };
 }
 
 -- what the list A says
@@ -61,7 +66,8 @@ faulty line kind = Err (record { line = line; kind = kind })
 -- numbered: the entries are those of list 101 alone
 numbered : entries_of (codes "101")
     (codes "access-list 101 permit tcp host 10.1.0.7 any eq 22\naccess-list 102 deny ip any any\n"
-    ++ codes "access-list 101 remark the rest is refused\naccess-list 101 deny   udp any any eq ntp\n")
+    ++ codes "access-list 101 remark the rest is refused\n"
+    ++ codes "access-list 101 deny   udp any any eq ntp\n")
     ≡ Ok (entry 10 1 Permit (6 to 6) (host 167837703) (ported any ((22 to 22) ∷ []))
     ∷ entry 20 4 Deny (17 to 17) any (ported any ((123 to 123) ∷ [])) ∷ [])
 unfolding with_lines digits is_among number_named port_table protocol_table compared_words
@@ -89,7 +95,8 @@ around = refl
 
 -- ports by name and by number after eq
 many_ports : one (codes "permit tcp any host 192.0.2.10 eq www 443")
-    ≡ Ok (entry 10 2 Permit (6 to 6) any (ported (host 3221225994) ((80 to 80) ∷ (443 to 443) ∷ [])) ∷ [])
+    ≡ Ok (entry 10 2 Permit (6 to 6) any
+    (ported (host 3221225994) ((80 to 80) ∷ (443 to 443) ∷ [])) ∷ [])
 unfolding with_lines digits is_among number_named port_table protocol_table compared_words
     log_words is_entry is_end is_named named_words begins_part part_words entry_words
 many_ports = refl
@@ -103,7 +110,8 @@ not_equal = refl
 
 -- ports above, below and between others
 above_and_between : one (codes "permit udp any gt 1023 any range 53 80")
-    ≡ Ok (entry 10 2 Permit (17 to 17) (ported any ((1024 to 65535) ∷ [])) (ported any ((53 to 80) ∷ [])) ∷ [])
+    ≡ Ok (entry 10 2 Permit (17 to 17) (ported any ((1024 to 65535) ∷ []))
+    (ported any ((53 to 80) ∷ [])) ∷ [])
 unfolding with_lines digits is_among number_named port_table protocol_table compared_words
     log_words is_entry is_end is_named named_words begins_part part_words entry_words
 above_and_between = refl
@@ -147,13 +155,15 @@ unfolding with_lines digits is_among number_named port_table protocol_table comp
     log_words is_entry is_end is_named named_words begins_part part_words entry_words
 twice = refl
 
-standard : said_by (codes "ip access-list standard A\n permit 10.0.0.1\n") ≡ faulty 1 kind.NotExtended
+standard : said_by (codes "ip access-list standard A\n permit 10.0.0.1\n")
+    ≡ faulty 1 kind.NotExtended
 unfolding with_lines digits is_among number_named port_table protocol_table compared_words
     log_words is_entry is_end is_named named_words begins_part part_words entry_words
     is_unread unread_kinds setting_words
 standard = refl
 
-stray : said_by (codes "ip access-list extended A\nexit\n permit ip any any\n") ≡ faulty 3 kind.StrayEntry
+stray : said_by (codes "ip access-list extended A\nexit\n permit ip any any\n")
+    ≡ faulty 3 kind.StrayEntry
 unfolding with_lines digits is_among number_named port_table protocol_table compared_words
     log_words is_entry is_end is_ip is_named named_words begins_part part_words entry_words
 stray = refl
@@ -168,18 +178,22 @@ unfolding with_lines digits is_among number_named port_table protocol_table comp
     log_words is_entry is_end is_ip is_named named_words begins_part part_words entry_words
 unknown = refl
 
-other_list : said_by (codes "ip access-list extended B\n permit ip any any\n") ≡ faulty 2 kind.NoList
+other_list : said_by (codes "ip access-list extended B\n permit ip any any\n")
+    ≡ faulty 2 kind.NoList
 unfolding with_lines digits is_among number_named port_table protocol_table compared_words
     log_words is_entry is_end is_ip is_named named_words begins_part part_words entry_words
 other_list = refl
 
-wrapped : entries_of (codes "101") (codes "access-list 101 permit tcp any any\n eq 443\n") ≡ faulty 2 kind.Wrapped
+wrapped : entries_of (codes "101") (codes "access-list 101 permit tcp any any\n eq 443\n")
+    ≡ faulty 2 kind.Wrapped
 unfolding with_lines digits is_among number_named port_table protocol_table compared_words
     log_words is_entry is_end is_ip is_named named_words begins_part part_words entry_words
 wrapped = refl
 
-of_the_other_device : entries_of (codes "OUT") (codes "access-list OUT extended permit ip any any\n")
+of_the_other_device :
+    entries_of (codes "OUT") (codes "access-list OUT extended permit ip any any\n")
     ≡ faulty 1 kind.BadList
 unfolding with_lines digits is_among number_named port_table protocol_table compared_words
-    log_words is_entry is_end is_ip is_named named_words begins_part part_words entry_words is_unread
+    log_words is_entry is_end is_ip is_named named_words begins_part part_words entry_words
+    is_unread
 of_the_other_device = refl

@@ -47,17 +47,19 @@ abbrev pub left_ports : Option PortPart → List Span
 left_ports None = []
 left_ports (Some part) = if part.negated then part.ports else []
 
--- packets with such source ports, and with such destination ports
+-- packets with such source ports
 abbrev pub from_ports : Packets → Span → Packets
 from_ports packets span = record packets { source_ports = span }
 
+-- packets with such destination ports
 abbrev pub to_ports : Packets → Span → Packets
 to_ports packets span = record packets { destination_ports = span }
 
--- packets with such sources, and with such destinations
+-- packets with such sources
 abbrev pub from : Packets → Span → Packets
 from packets span = record packets { source = span }
 
+-- packets with such destinations
 abbrev pub to : Packets → Span → Packets
 to packets span = record packets { destination = span }
 
@@ -97,14 +99,17 @@ abbrev pub to_port_rules : EntryParts → Packets → List (ListRule (List Span)
 to_port_rules parts packets =
     map (λ span. rule_of parts (to_ports packets span)) parts.destination_ports
 
+-- the rules of an entry for packets of a source and a destination, source ports first
 abbrev pub from_port_rules : EntryParts → Packets → List (ListRule (List Span))
 from_port_rules parts packets =
     flat_map (λ span. to_port_rules parts (from_ports packets span)) parts.source_ports
 
+-- those for packets of a source, destinations first
 abbrev pub to_rules : EntryParts → Packets → List (ListRule (List Span))
 to_rules parts packets =
     flat_map (λ span. from_port_rules parts (to packets span)) parts.destinations
 
+-- those for its packets, sources first
 abbrev pub from_rules : EntryParts → Packets → List (ListRule (List Span))
 from_rules parts packets = flat_map (λ span. to_rules parts (from packets span)) parts.sources
 

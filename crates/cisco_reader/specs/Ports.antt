@@ -47,10 +47,12 @@ abbrev pub above : List (List ℕ) → Result (After (List Span)) LineKind
 above words =
     next_port words >>= λ port. Ok (record { value = ports_above port.value; words = port.words })
 
+-- the ports below one
 abbrev pub below : List (List ℕ) → Result (After (List Span)) LineKind
 below words =
     next_port words >>= λ port. Ok (record { value = ports_below port.value; words = port.words })
 
+-- the ports from one to another
 abbrev pub range : List (List ℕ) → Result (After (List Span)) LineKind
 range words = next_port words >>= λ low. (next_port low.words >>= range_of low.value)
 

@@ -61,6 +61,7 @@ pub record Numbered : Type 0 where
   pub loose : Loose
   pub sequence : ℕ
 
+-- the number that an entry gets after one with that number
 abbrev pub numbered_after : Loose → ℕ → Option ℕ → Result Numbered LineKind
 numbered_after loose last number = loose_after loose number >>= λ known.
     (sequence_after last number >>= λ sequence. Ok (record { loose = known; sequence = sequence }))

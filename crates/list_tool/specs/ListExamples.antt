@@ -52,23 +52,27 @@ only status = record { status = status; text = [] }
 no_list : outcome (asked Iptables (codes "INPUT") answers.Line) [] ≡ only ReadFault
 no_list = refl
 
-no_chain : over list (asked Iptables (codes "FORWARD") answers.Line) ≡ only (Refused (at_line 0 NoChain))
+no_chain : over list (asked Iptables (codes "FORWARD") answers.Line)
+    ≡ only (Refused (at_line 0 NoChain))
 unfolding list digits with_lines protocol_table target_table
 no_chain = refl
 
 -- packets come to it from other chains alone
-no_policy : over list (asked Iptables (codes "web") answers.Line) ≡ only (Refused (at_line 0 NoPolicy))
+no_policy : over list (asked Iptables (codes "web") answers.Line)
+    ≡ only (Refused (at_line 0 NoPolicy))
 unfolding list digits with_lines protocol_table target_table
 no_policy = refl
 
 -- a line that no rule file says
-a_faulty_line : over (codes "*filter\n:INPUT DROP [0:0]\n\n-A INPUT -m recent --set -j DROP\nCOMMIT\n")
+a_faulty_line :
+    over (codes "*filter\n:INPUT DROP [0:0]\n\n-A INPUT -m recent --set -j DROP\nCOMMIT\n")
     (asked Iptables (codes "INPUT") answers.Line) ≡ only (Refused (at_line 4 (Line kind.CantSay)))
 unfolding digits with_lines match_table target_table
 a_faulty_line = refl
 
 -- lines that lead from a chain back to it
-a_loop : over (codes "*filter\n:INPUT DROP [0:0]\n:web - [0:0]\n-A INPUT -j web\n-A web -p tcp -g web\nCOMMIT\n")
+a_loop : over (codes "*filter\n:INPUT DROP [0:0]\n:web - [0:0]\n-A INPUT -j web\n"
+    ++ codes "-A web -p tcp -g web\nCOMMIT\n")
     (asked Iptables (codes "INPUT") answers.Verdict) ≡ only (Refused (at_line 5 Loop))
 unfolding digits with_lines protocol_table target_table
 a_loop = refl
@@ -76,8 +80,8 @@ a_loop = refl
 -- an entry of a router that no rule file says
 a_faulty_entry : over (codes "access-list 101 permit tcp any any established\n")
     (asked Cisco (codes "101") answers.Line) ≡ only (Refused (at_line 1 (CiscoLine entry.Compares)))
-unfolding digits cisco.with_lines is_among number_named names.protocol_table compared_words log_words
-    cisco.entry_words
+unfolding digits cisco.with_lines is_among number_named names.protocol_table compared_words
+    log_words cisco.entry_words
 a_faulty_entry = refl
 
 -- ---- lines on standard error
@@ -91,6 +95,7 @@ of_an_entry : message (Refused (at_line 1 (CiscoLine entry.Compares)))
 unfolding digits
 of_an_entry = refl
 
-of_words : message (Usage (fault_at 1 UnknownCommand)) ≡ codes "aclc-lists: usage: word 1: unknown command\n"
+of_words : message (Usage (fault_at 1 UnknownCommand))
+    ≡ codes "aclc-lists: usage: word 1: unknown command\n"
 unfolding digits
 of_words = refl

@@ -50,7 +50,8 @@ at_line line kind = record { line = line; kind = kind }
 
 infixl 10 ◌>>=◌
 -- a value, and then what comes of it, or its fault
-abbrev pub ◌>>=◌ : {A B : Type 0} → Result A ListFault → (A → Result B ListFault) → Result B ListFault
+abbrev pub ◌>>=◌ :
+    {A B : Type 0} → Result A ListFault → (A → Result B ListFault) → Result B ListFault
 (Ok value) >>= following = following value
 (Err fault) >>= following = Err fault
 
@@ -89,7 +90,8 @@ refusal_of chains (fault.Loop at) = refusal.Fault (unturned chains (fault.Loop a
 refusal_of chains (fault.Limit which) = refusal.Fault (unturned chains (fault.Limit which))
 
 -- the rules of the chains, or why there are none
-abbrev pub or_unturned : Chains → Result (List RuleView) ChainsFault → Result (List RuleView) ListFault
+abbrev pub or_unturned :
+    Chains → Result (List RuleView) ChainsFault → Result (List RuleView) ListFault
 or_unturned chains (Ok rules) = Ok rules
 or_unturned chains (Err fault) = Err (unturned chains fault)
 

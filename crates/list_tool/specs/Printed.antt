@@ -1,5 +1,5 @@
--- The text of a rule file that is made of a list: its rules, and above each the text of the line that
--- it was made of, where that isn't the line of the rule before it.
+-- The text of a rule file that is made of a list: its rules, and above each the text of the line
+-- that it was made of, where that isn't the line of the rule before it.
 use Rattle.std.specs.Prelude.{◌≡◌, ℕ, ◌+◌, ◌-◌, ◌==◌, List, [], ◌∷◌, ◌++◌, length, nat_lt, slice_get}
 use Rattle.std.specs.Prelude.{if◌then◌else◌, codes, Option, Some, None, Result, Ok, Err}
 use Rattle.field_defs.specs.declared.field.Family.{Family}
@@ -44,7 +44,8 @@ text_or_none (Some text) = text
 -- the text of the line of a number, from 1; 0 is that of the rule for what no line decides
 abbrev pub line_text : List (List ℕ) → ℕ → List ℕ
 line_text lines number =
-    if number == 0 then codes "what no line decides" else text_or_none (slice_get lines (number - 1))
+    if number == 0 then codes "what no line decides"
+    else text_or_none (slice_get lines (number - 1))
 
 -- the text of a rule's line, where that is another than the line before
 abbrev pub comment_of : List (List ℕ) → ℕ → ℕ → Option (List ℕ)
@@ -82,7 +83,8 @@ within_limit text =
     if nat_lt max_rule_file (length text) then Err (at_line 0 TextTooLong) else Ok text
 
 -- the text of some rules, by the lines of the list and the lines of the rules
-abbrev pub text_of_rules : Family → List ℕ → List RuleView → List RuleView → Result (List ℕ) ListFault
+abbrev pub text_of_rules :
+    Family → List ℕ → List RuleView → List RuleView → Result (List ℕ) ListFault
 text_of_rules its bytes by_line rules =
     unless_odd (first_odd its by_line 0 rules) rules >>= λ kept.
     within_limit (list_text its (commented (lines_of bytes) by_line 0 kept))

@@ -67,7 +67,8 @@ with_verdicts = refl
 
 -- the rule for what no line decides says so
 at_the_end :
-    (let rules = of_ip4 2 3 0 0 (Bitmask 17 255) (Range 53 53) ∷ of_ip4 1 0 0 0 (Bitmask 0 0) (Range 0 65535) ∷ [] in
+    (let rules = of_ip4 2 3 0 0 (Bitmask 17 255) (Range 53 53)
+    ∷ of_ip4 1 0 0 0 (Bitmask 0 0) (Range 0 65535) ∷ [] in
     text_of_rules Ip4 list rules rules)
     ≡ Ok (codes "# -A INPUT -p udp -m udp --dport 53 -j ACCEPT\n"
     ++ codes "@0.0.0.0/0\t0.0.0.0/0\t0 : 65535\t53 : 53\t0x11/0xFF\tpri=2 cat=65535 data=3\n"
@@ -90,7 +91,8 @@ of_ip6 high_bits low_bits =
 -- a prefix that ends in the high half
 of_network : text_of_rules Ip6 list (of_ip6 32 0 ∷ []) (of_ip6 32 0 ∷ [])
     ≡ Ok (codes "# -A INPUT -p udp -m udp --dport 53 -j ACCEPT\n"
-    ++ codes "@2001:db8:0:0:0:0:0:0/32\t0:0:0:0:0:0:0:0/0\t0 : 65535\t22 : 22\t0x06/0xFF\tpri=1 cat=65535 data=3\n")
+    ++ codes "@2001:db8:0:0:0:0:0:0/32\t0:0:0:0:0:0:0:0/0\t0 : 65535\t22 : 22\t"
+    ++ codes "0x06/0xFF\tpri=1 cat=65535 data=3\n")
 unfolding list digits
 of_network = refl
 

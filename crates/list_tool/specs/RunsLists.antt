@@ -17,8 +17,8 @@ use Rattle.list_tool.specs.Message.{message}
 use Rattle.list_tool.specs.Printed.{text_of}
 use Rattle.list_tool.specs.Words.{Request, command}
 
--- The list was read to its end, and this is the text of the rule file that is asked for, which decides
--- as the chain of the list does.
+-- The list was read to its end, and this is the text of the rule file that is asked for, which
+-- decides as the chain of the list does.
 pub record Tells (request : Request) (file : Heard) (text : List ℕ) : Type 0 where
   pub whole : file.ending ≡ Ended
   pub said : text_of request file.bytes ≡ Ok text

@@ -35,7 +35,8 @@ of_cisco = refl
 by_verdict : after (codes "iptables") (codes "data=verdict" ∷ []) ≡ asked Iptables Verdict
 by_verdict = refl
 
-nothing_assumed : after (codes "iptables") (codes "assume=" ∷ codes "data=line" ∷ []) ≡ asked Iptables Line
+nothing_assumed : after (codes "iptables") (codes "assume=" ∷ codes "data=line" ∷ [])
+    ≡ asked Iptables Line
 nothing_assumed = refl
 
 -- ---- faults
@@ -52,7 +53,8 @@ no_file = refl
 no_chain : command (codes "iptables" ∷ codes "fw.list" ∷ []) ≡ Err (fault_at 3 MissingName)
 no_chain = refl
 
-twice : after (codes "iptables") (codes "data=line" ∷ codes "data=line" ∷ []) ≡ Err (fault_at 5 RepeatedOption)
+twice : after (codes "iptables") (codes "data=line" ∷ codes "data=line" ∷ [])
+    ≡ Err (fault_at 5 RepeatedOption)
 twice = refl
 
 no_value : after (codes "iptables") (codes "data=7" ∷ []) ≡ Err (fault_at 4 BadValue)

@@ -1,7 +1,7 @@
 //! a firewall's or router's list and a chain's name → a rule file that decides as the chain does
 //!
-//! [`run_lists`] reads the words, reads the list through a desk, and puts a rule file to the output,
-//! or one line that names the cause. [`run_list_program`] is all that a `main` has to call.
+//! [`run_lists`] reads the words, reads the list through a desk, and puts a rule file to the
+//! output, or one line that names the cause. [`run_list_program`] is all that a `main` has to call.
 //!
 //! | module | what it reads, says or prints |
 //! |---|---|

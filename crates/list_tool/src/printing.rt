@@ -251,8 +251,8 @@ fn put_rule<'a>(
     comment: Option<&'a [u8]>,
     rule: &'a StoredRule,
 ) -> Result<(), AllocError>
-    ensures { OnOk result (line_views lines.new.items
-        ≡ line_views lines.old.items ++ after_comment (option_map (λ text. text.now) comment.entry) rule.now) }
+    ensures { OnOk result (line_views lines.new.items ≡ line_views lines.old.items
+        ++ after_comment (option_map (λ text. text.now) comment.entry) rule.now) }
 {
     match comment {
         Some(text) => {

@@ -33,8 +33,8 @@ pub fn run_list_program(rt: &HostRuntime) -> ExitCode
     run_list_words(rt, system_words(rt))
 }
 
-/// The same of these words, of which the first is the program's name. The exit code is 1 where there
-/// are no words.
+/// The same of these words, of which the first is the program's name. The exit code is 1 where
+/// there are no words.
 pub fn run_list_words(rt: &HostRuntime, words: Option<Vec<String>>) -> ExitCode
     ensures ran { IfSome words (λ all. (status : ListStatus) × (exit_status result ≡ code_of status)
         × RunsAnew (map string_bytes (drop 1 all.items)) status) }

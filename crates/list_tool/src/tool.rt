@@ -23,9 +23,9 @@ use std::alloc::Global;
 /// and tells how that ended.
 ///
 /// The words are those after the program's name: `iptables` or `ip6tables`, the name of the file,
-/// and the name of a chain that packets come to by themselves; or `cisco`, the name of the file, and
-/// the name or the number of an extended list of IPv4. Then options: `data=line` or `data=verdict`,
-/// and `assume=`, which changes nothing for `cisco`.
+/// and the name of a chain that packets come to by themselves; or `cisco`, the name of the file,
+/// and the name or the number of an extended list of IPv4. Then options: `data=line` or
+/// `data=verdict`, and `assume=`, which changes nothing for `cisco`.
 ///
 /// The list is read through `desk`. What is put to `out` is a rule file whose winner has, for every
 /// packet of the family, the number of the line that decides, or its verdict. Above its rules stand
@@ -57,9 +57,11 @@ fn answer<D: Desk, O: Sink>(
     out: &mut O,
 ) -> ListStatus
     ensures answers { IfOk (command (map string_bytes words.now)) (λ request. AnswersList request
-        (outside (D.view desk.old) (O.view out.old) 0) (outside (D.view desk.new) (O.view out.new) 0) result) }
+        (outside (D.view desk.old) (O.view out.old) 0)
+        (outside (D.view desk.new) (O.view out.new) 0) result) }
     ensures usage { IfErr (command (map string_bytes words.now)) (λ fault. FaultsWords
-        (outside (D.view desk.old) (O.view out.old) 0) (outside (D.view desk.new) (O.view out.new) 0)
+        (outside (D.view desk.old) (O.view out.old) 0)
+        (outside (D.view desk.new) (O.view out.new) 0)
         (ListStatus.Usage fault) result) }
 {
     match read_words(words) {

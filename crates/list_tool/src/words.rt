@@ -99,8 +99,8 @@ fn read_names(form: Form, words: &[String]) -> Result<Request<'_>, UsageFault>
 
 /// The options of the words after the names.
 fn read_options(words: &[String]) -> Result<Options<'_>, UsageFault>
-    ensures options { IfOk result
-        (λ options. options_from 4 none_given (map string_bytes words.now) ≡ Ok (options_of options)) }
+    ensures options { IfOk result (λ options.
+        options_from 4 none_given (map string_bytes words.now) ≡ Ok (options_of options)) }
     ensures fault { IfErr result
         (λ fault. options_from 4 none_given (map string_bytes words.now) ≡ Err fault) }
 {

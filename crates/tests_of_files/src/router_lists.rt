@@ -66,8 +66,8 @@ struct Packet(u8, [u8; 4], [u8; 4], u16, u16, u32);
 /// A server behind the router.
 const SERVER: [u8; 4] = [192, 0, 2, 10];
 
-/// Packets that come in from outside, each with the line that decides it. The line 13 has the number
-/// 5 in the sequence, and those without a number stand last.
+/// Packets that come in from outside, each with the line that decides it. The line 13 has the
+/// number 5 in the sequence, and those without a number stand last.
 const OUTSIDE: [Packet; 13] = [
     Packet(6, [10, 1, 2, 3], SERVER, 9, 443, 6),
     Packet(6, [172, 31, 0, 1], SERVER, 9, 443, 7),
