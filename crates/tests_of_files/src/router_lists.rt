@@ -21,7 +21,7 @@ const EDGE: &str = "! an edge router's configuration, as show running-config wri
     30 permit udp any eq domain 192.0.2.0 0.0.0.255 gt 1023\n \
     40 permit tcp 198.51.100.0 0.0.0.6 any neq telnet\n \
     permit icmp any any\n \
-    5 permit gre host 203.0.113.1 host 192.0.2.1\n \
+    permit gre host 203.0.113.1 host 192.0.2.1\n \
     permit 50 any 192.0.2.0 0.0.0.255\n \
     deny   tcp any any lt 1024\n \
     permit udp any host 192.0.2.53 eq domain log-input\n\
@@ -66,8 +66,7 @@ struct Packet(u8, [u8; 4], [u8; 4], u16, u16, u32);
 /// A server behind the router.
 const SERVER: [u8; 4] = [192, 0, 2, 10];
 
-/// Packets that come in from outside, each with the line that decides it. The line 13 has the
-/// number 5 in the sequence, and those without a number stand last.
+/// Packets that come in from outside, each with the line that decides it.
 const OUTSIDE: [Packet; 13] = [
     Packet(6, [10, 1, 2, 3], SERVER, 9, 443, 6),
     Packet(6, [172, 31, 0, 1], SERVER, 9, 443, 7),
