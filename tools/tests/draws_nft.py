@@ -71,17 +71,18 @@ def first(draw, family):
                                              draw.choice(["ipv4", "ipv6"]))] * (family == "inet"))
 
 
-def answer(draw, family):
-    """A rejection, with an answer that packets of a table may get."""
-    kinds = {"ip": ["tcp reset", "icmp"], "ip6": ["tcp reset", "icmpv6"], "inet": ["icmp", "icmpv6", "icmpx"]}
-    kind = draw.choice(kinds[family])
-    return {"reject": {"type": kind, **({} if kind == "tcp reset" else {"expr": "admin-prohibited"})}}
+def answers(family, network, transport):
+    """The answers of reject that nft takes in a rule for these packets."""
+    kinds = [{"ip": "icmp", "ip6": "icmpv6"}[network]] if network else []
+    kinds += ["icmpx"] * (family == "inet") + ["tcp reset"] * (transport == "tcp")
+    return [{"reject": {"type": kind} if kind == "tcp reset" else {"type": kind, "expr": "admin-prohibited"}}
+            for kind in kinds]
 
 
-def verdict(draw, family, later):
-    """The statements at a rule's end."""
+def verdict(draw, rejecting, later):
+    """The statements at a rule's end, one of these answers of reject among them."""
     choices = [{"accept": None}, {"drop": None}, {"return": None}, {"counter": {"packets": 0, "bytes": 0}},
-               {"log": {"prefix": "seen "}}, answer(draw, family)]
+               {"log": {"prefix": "seen "}}, draw.choice(rejecting)]
     choices += [{"jump": {"target": draw.choice(later)}}, {"goto": {"target": draw.choice(later)}}] * 2 if later else []
     one = draw.choice(choices)
     return [one] if draw.random() < 0.7 or "log" in one else [{"log": {"prefix": "x "}}, one]
@@ -91,14 +92,15 @@ def expression(draw, family, later):
     """The statements of a rule."""
     network, transport = family if family != "inet" else draw.choice(["ip", "ip6"]), draw.choice(["tcp", "udp"])
     if draw.random() < 0.1:
-        return [first(draw, family)] + verdict(draw, family, later)
+        alone = answers(family, None if family == "inet" else family, None)
+        return [first(draw, family)] + verdict(draw, alone, later)
     found = [draw.choice([address, address, port, port, pair, other])(draw, network, transport)
              for _ in range(draw.randrange(3))]
     if draw.random() < 0.2 and transport == "tcp":
         pairs = [[22, {"drop": None}], [{"range": [80, 90]}, {"accept": None}]]
         pairs += [[443, {"jump": {"target": draw.choice(later)}}]] if later else []
         return found + [{"vmap": {"key": payload("tcp", "dport"), "data": draw.choice([{"set": pairs}, "@services"])}}]
-    return found + verdict(draw, family, later)
+    return found + verdict(draw, answers(family, network, transport), later)
 
 
 def drawn_objects(draw, hook):
