@@ -15,7 +15,8 @@ use Rattle.table_sizes.specs.Sizes.{max_keys}
 use Rattle.flat_table.specs.Batch.{batch_transitions, keys_in}
 use Rattle.flat_table.specs.Laws.{WalksGoStepByStep, WalksStay}
 use Rattle.flat_table.proofs.Offered.{batch_bound}
-use Rattle.flow_core.specs.Machine.{Machine, FlowState, first_machine, first_state, flow_from_first, flow_run, flow_step}
+use Rattle.flow_core.specs.Machine.{Machine, FlowState, first_machine, first_state, flow_from_first, flow_run}
+use Rattle.flow_core.specs.Machine.{flow_step}
 use Rattle.flow_core.specs.Machine.{is_done, most_steps, turns, IsRounds}
 use Rattle.flow_core.specs.Standing.{StandsOver}
 use Rattle.flow_core.specs.Invariant.{IsFlown}
@@ -102,9 +103,10 @@ module _ {table : TableView} {keys : List ℕ} (f : Flies table keys) where
         ap (λ (slots : List _). count_by is_busy slots) (take_all width state.machine.slots (omega (arith, is))),
       )
 
--- after n turns of a machine that began over the old rows: it is where they lead, and was not done before
+-- after n turns of a machine that began over the old rows: it is where they lead, was not done before, and what is kept
+-- of the walks holds
 pub record Turned (table : TableView) (keys : List ℕ) (width n : ℕ) (machine : Machine) (old rows : List (List ℕ))
-    (taken begun steps : ℕ) : Type 0 where
+    (taken begun steps : ℕ) (Kept : Type 0) : Type 0 where
   pub machine_is : machine ≡ (flow_from_first table keys width (turns width n)).machine
   pub stands : StandsOver table keys machine (length rows)
   pub len : length rows ≡ length old
@@ -114,12 +116,12 @@ pub record Turned (table : TableView) (keys : List ℕ) (width n : ℕ) (machine
   pub taken_is : taken + words_left table keys (flow_from_first table keys width (turns width n))
       ≡ batch_transitions table keys
   pub counted : steps ≡ begun + taken
-  pub noted : AreNoted table keys machine rows
+  pub kept : Kept
 
 -- before the first turn a machine stands in its first state
 pub turned_none : {table : TableView} {keys : List ℕ} {width : ℕ} {machine : Machine} {rows : List (List ℕ)}
     {begun : ℕ} → machine ≡ first_machine table keys width → StandsOver table keys machine (length rows) →
-    Turned table keys width 0 machine rows rows 0 begun begun
+    Turned table keys width 0 machine rows rows 0 begun begun (AreNoted table keys machine rows)
 turned_none {table = table} {keys = keys} {width = width} {rows = rows} is stands = record {
   machine_is = is;
   stands = stands;
@@ -128,111 +130,114 @@ turned_none {table = table} {keys = keys} {width = width} {rows = rows} is stand
   least = λ earlier below. absurd (omega (arith, below));
   taken_is = omega (arith, first_left table keys width);
   counted = omega arith;
-  noted = subst (λ (machine : Machine). AreNoted table keys machine rows) (sym is) (noted_none table keys width rows);
+  kept = subst (λ (machine : Machine). AreNoted table keys machine rows) (sym is) (noted_none table keys width rows);
 }
 
 -- what one turn did
 pub record Turns (table : TableView) (keys : List ℕ) (width : ℕ) (now next : Machine) (rows new : List (List ℕ))
-    (busy : ℕ) : Type 0 where
+    (busy : ℕ) (Kept Next : Type 0) : Type 0 where
   pub machine : IsAfterRun table keys now (range_with_len 0 width) next
   pub busy_is : busy ≡ busy_slots now
   pub len : length new ≡ length rows
   pub others : drop (keys_in table keys) new ≡ drop (keys_in table keys) rows
   pub stands : StandsOver table keys next (length new)
-  pub noted : AreNoted table keys now rows → AreNoted table keys next new
+  pub kept : Kept → Next
 
 module _ {table : TableView} {keys : List ℕ} {width n : ℕ} {machine : Machine} {old rows : List (List ℕ)}
-    {taken begun steps : ℕ} (f : Flies table keys) (t : Turned table keys width n machine old rows taken begun steps)
-  where
-    abbrev here : FlowState
-    here = flow_from_first table keys width (turns width n)
+    {taken begun steps : ℕ} {Kept : Type 0} (f : Flies table keys)
+    (t : Turned table keys width n machine old rows taken begun steps Kept) where
+  abbrev pub here : FlowState
+  here = flow_from_first table keys width (turns width n)
 
-    flown_here : IsFlown table keys here
-    flown_here = from_first table keys f.stay f.sound f.bytes width (turns width n) (turns_are_slots width n)
+  pub flown_here : IsFlown table keys here
+  flown_here = from_first table keys f.stay f.sound f.bytes width (turns width n) (turns_are_slots width n)
 
-    width_here : width ≡ length here.machine.slots
-    width_here = sym (run_width table keys (first_state table keys width) (turns width n)
-        ∙ length-replicate width None)
+  pub width_here : width ≡ length here.machine.slots
+  width_here = sym (run_width table keys (first_state table keys width) (turns width n)
+      ∙ length-replicate width None)
 
-    one_turn : flow_from_first table keys width (turns width (n + 1)) ≡ flow_turn table keys width here
-    one_turn =
-        ap (λ (slots : List ℕ). flow_from_first table keys width slots) (turns-more width n)
-        ∙ fold-append (flow_step table keys) (first_state table keys width) (turns width n) (range_with_len 0 width)
+  pub one_turn : flow_from_first table keys width (turns width (n + 1)) ≡ flow_turn table keys width here
+  one_turn =
+      ap (λ (slots : List ℕ). flow_from_first table keys width slots) (turns-more width n)
+      ∙ fold-append (flow_step table keys) (first_state table keys width) (turns width n) (range_with_len 0 width)
 
-    -- a turn takes a word for each busy slot
-    left_here : {busy : ℕ} → busy ≡ busy_slots machine →
-        words_left table keys (flow_turn table keys width here) + busy ≡ words_left table keys here
-    left_here busy_is = omega (
-      arith,
-      busy_is,
-      ap busy_slots t.machine_is,
-      turn_left f here width width_here flown_here,
-    )
+  -- a turn takes a word for each busy slot
+  left_here : {busy : ℕ} → busy ≡ busy_slots machine →
+      words_left table keys (flow_turn table keys width here) + busy ≡ words_left table keys here
+  left_here busy_is = omega (
+    arith,
+    busy_is,
+    ap busy_slots t.machine_is,
+    turn_left f here width width_here flown_here,
+  )
 
-    -- what the walks took with one more turn is no more than they take
-    pub taken_below : {busy : ℕ} → busy ≡ busy_slots machine → taken + busy ≤ batch_transitions table keys
-    taken_below busy_is = omega (arith, t.taken_is, left_here busy_is)
+  -- what the walks took with one more turn is no more than they take
+  pub taken_below : {busy : ℕ} → busy ≡ busy_slots machine → taken + busy ≤ batch_transitions table keys
+  taken_below busy_is = omega (arith, t.taken_is, left_here busy_is)
 
-    pub turned_more : {next : Machine} {new : List (List ℕ)} {busy new_steps : ℕ} → is_done machine ≡ false →
-        Turns table keys width machine next rows new busy → new_steps ≡ steps + busy →
-        Turned table keys width (n + 1) next old new (taken + busy) begun new_steps
-    turned_more not_done u counted = record {
-      machine_is = u.machine here.rows
-          ∙ ap (λ (it : Machine). (flow_turn table keys width (record { machine = it; rows = here.rows })).machine)
-          t.machine_is
-          ∙ sym (ap (λ (state : FlowState). state.machine) one_turn);
-      stands = u.stands;
-      len = u.len ∙ t.len;
-      others = u.others ∙ t.others;
-      least = λ earlier below. elim (cases_eq earlier n) [
-        | inl same ↦ ap (λ (m : ℕ). is_done (flow_from_first table keys width (turns width m)).machine) same
-            ∙ ap is_done (sym t.machine_is) ∙ not_done
-        | inr other ↦ t.least earlier (omega (arith, below, other))
-      ];
-      taken_is = omega (
-        arith,
-        t.taken_is,
-        left_here u.busy_is,
-        ap (λ (state : FlowState). words_left table keys state) one_turn,
-      );
-      counted = omega (arith, counted, t.counted);
-      noted = u.noted t.noted;
-    }
-
-    -- where it is not done, the turns so far are fewer than are enough
-    pub turns_few : is_done machine ≡ false →
-        ((m : ℕ) × IsRounds table keys width m × (m ≤ most_steps table keys)) → n < most_steps table keys
-    turns_few not_done rounds = elim (cases_lt n rounds.0) [
-      | inl less ↦ omega (arith, less, rounds.2)
-      | inr past ↦ elim (cases_eq rounds.0 n) [
-        | inl same ↦ (
-            let ends : is_done machine ≡ true =
-            ap is_done t.machine_is
-            ∙ ap (λ (m : ℕ). is_done (flow_from_first table keys width (turns width m)).machine) (sym same)
-            ∙ rounds.1.ends in
-            absurd (cc (ends, not_done))
-            )
-        | inr other ↦ absurd (cc (rounds.1.ends, t.least rounds.0 (omega (arith, past, other))))
-      ]
-    ]
-
-    -- where it is done, they are the rounds, and all words are taken
-    pub rounds_are : is_done machine ≡ true → IsRounds table keys width n
-    rounds_are done = record {
-      ends = ap is_done (sym t.machine_is) ∙ done;
-      least = t.least;
-    }
-
-    pub all_taken : is_done machine ≡ true → taken ≡ batch_transitions table keys
-    all_taken done = omega (
+  pub turned_more : {next : Machine} {new : List (List ℕ)} {busy new_steps : ℕ} {Next : Type 0} →
+      is_done machine ≡ false → Turns table keys width machine next rows new busy Kept Next →
+      new_steps ≡ steps + busy → Turned table keys width (n + 1) next old new (taken + busy) begun new_steps Next
+  turned_more not_done u counted = record {
+    machine_is = u.machine here.rows
+        ∙ ap (λ (it : Machine). (flow_turn table keys width (record { machine = it; rows = here.rows })).machine)
+        t.machine_is
+        ∙ sym (ap (λ (state : FlowState). state.machine) one_turn);
+    stands = u.stands;
+    len = u.len ∙ t.len;
+    others = u.others ∙ t.others;
+    least = λ earlier below. elim (cases_eq earlier n) [
+      | inl same ↦ ap (λ (m : ℕ). is_done (flow_from_first table keys width (turns width m)).machine) same
+          ∙ ap is_done (sym t.machine_is) ∙ not_done
+      | inr other ↦ t.least earlier (omega (arith, below, other))
+    ];
+    taken_is = omega (
       arith,
       t.taken_is,
-      done_left table keys here flown_here (ap is_done (sym t.machine_is) ∙ done),
-    )
+      left_here u.busy_is,
+      ap (λ (state : FlowState). words_left table keys state) one_turn,
+    );
+    counted = omega (arith, counted, t.counted);
+    kept = u.kept t.kept;
+  }
 
-    -- and all rows are noted
-    pub noted_all : is_done machine ≡ true → AreAllNoted table keys rows
-    noted_all done = all_noted t.noted t.stands.jobs done
+  -- where it is not done, the turns so far are fewer than are enough
+  pub turns_few : is_done machine ≡ false →
+      ((m : ℕ) × IsRounds table keys width m × (m ≤ most_steps table keys)) → n < most_steps table keys
+  turns_few not_done rounds = elim (cases_lt n rounds.0) [
+    | inl less ↦ omega (arith, less, rounds.2)
+    | inr past ↦ elim (cases_eq rounds.0 n) [
+      | inl same ↦ (
+          let ends : is_done machine ≡ true =
+          ap is_done t.machine_is
+          ∙ ap (λ (m : ℕ). is_done (flow_from_first table keys width (turns width m)).machine) (sym same)
+          ∙ rounds.1.ends in
+          absurd (cc (ends, not_done))
+          )
+      | inr other ↦ absurd (cc (rounds.1.ends, t.least rounds.0 (omega (arith, past, other))))
+    ]
+  ]
+
+  -- where it is done, they are the rounds, and all words are taken
+  pub rounds_are : is_done machine ≡ true → IsRounds table keys width n
+  rounds_are done = record {
+    ends = ap is_done (sym t.machine_is) ∙ done;
+    least = t.least;
+  }
+
+  pub all_taken : is_done machine ≡ true → taken ≡ batch_transitions table keys
+  all_taken done = omega (
+    arith,
+    t.taken_is,
+    done_left table keys here flown_here (ap is_done (sym t.machine_is) ∙ done),
+  )
+
+-- and all rows are noted
+pub noted_all : {table : TableView} {keys : List ℕ} {width n : ℕ} {machine : Machine} {old rows : List (List ℕ)}
+    {taken begun steps : ℕ} →
+    Turned table keys width n machine old rows taken begun steps (AreNoted table keys machine rows) →
+    is_done machine ≡ true → AreAllNoted table keys rows
+noted_all t done = all_noted t.kept t.stands.jobs done
 
 -- ---- the numbers fit
 

@@ -1,5 +1,6 @@
 -- Lanes that note the rows which walks reach, one after the other.
-use Rattle.std.proofs.Common.{◌≡◌, ℕ, ◌+◌, ◌-◌, ◌<◌, ◌≤◌, List, sym, ap, ◌∙◌, refl, arith, length, take, drop, get_or, set, map}
+use Rattle.std.proofs.Common.{◌≡◌, ℕ, ◌+◌, ◌-◌, ◌<◌, ◌≤◌, List, sym, ap, ◌∙◌, refl, arith, length, take, drop, get_or}
+use Rattle.std.proofs.Common.{set, map}
 use Rattle.std.proofs.Common.{subst, true, false, inl, inr, length-set}
 use Rattle.std.specs.Prelude.{None, Some, Option, count_by}
 use Rattle.std.specs.List.{range_with_len}
@@ -24,7 +25,7 @@ use Rattle.lane_walk.proofs.Noted.{noted_job, noted_word, notes_len, notes_other
 use Rattle.lane_walk.proofs.Turns.{counted}
 
 -- the state of this machine with some rows
-abbrev with_rows : Machine → List (List ℕ) → FlowState
+abbrev pub with_rows : Machine → List (List ℕ) → FlowState
 with_rows machine rows = record { machine = machine; rows = rows }
 
 module _ {table : TableView} {keys : List ℕ} {before mid : Machine} {old rows : List (List ℕ)} {from a busy : ℕ}
@@ -78,7 +79,7 @@ module _ (table : TableView) (keys : List ℕ) (before : Machine) (rows : List (
   step_is held is = ap (λ (it : Option Flight). (step_of table keys (with_rows before rows) lane it).machine) is
 
   -- a busy slot takes its word
-  busy_machine : (flight : Flight) → get_or before.slots lane None ≡ Some flight →
+  pub busy_machine : (flight : Flight) → get_or before.slots lane None ≡ Some flight →
       (flow_step table keys (with_rows before rows) lane).machine ≡ record {
         jobs = before.jobs;
         given = before.given;
@@ -90,7 +91,7 @@ module _ (table : TableView) (keys : List ℕ) (before : Machine) (rows : List (
   ]
 
   -- an empty slot takes the next job
-  job_machine : get_or before.slots lane None ≡ None → before.given < job_count table keys →
+  pub job_machine : get_or before.slots lane None ≡ None → before.given < job_count table keys →
       (flow_step table keys (with_rows before rows) lane).machine ≡ record {
         jobs = before.jobs;
         given = before.given + 1;
@@ -101,7 +102,7 @@ module _ (table : TableView) (keys : List ℕ) (before : Machine) (rows : List (
       (job_got table keys before.given few)
 
   -- or finds none
-  idle_machine : get_or before.slots lane None ≡ None → job_count table keys ≤ before.given →
+  pub idle_machine : get_or before.slots lane None ≡ None → job_count table keys ≤ before.given →
       (flow_step table keys (with_rows before rows) lane).machine ≡ before
   idle_machine is all = step_is None is
       ∙ ap (λ (job : Option Job). (after_empty table (with_rows before rows) lane job).machine)
@@ -135,7 +136,11 @@ module _ {table : TableView} {keys : List ℕ} {jobs given : ℕ} (flights : Lis
       let word : ℕ = word_of table keys flight in
       let holds_before : get_or before.slots lane None ≡ Some flight =
       ap (λ (machine : Machine). get_or machine.slots lane None) (sym l.is) ∙ holds in
-      let same : record { jobs = before.jobs; given = before.given; slots = set before.slots lane (held_after flight word) }
+      let same : record {
+        jobs = before.jobs;
+        given = before.given;
+        slots = set before.slots lane (held_after flight word);
+      }
       ≡ seen jobs given (set flights lane next) =
       ap (λ (n : ℕ). record { jobs = before.jobs; given = n; slots = set before.slots lane (held_after flight word) })
       (sym (ap (λ (machine : Machine). machine.given) l.is))

@@ -1,5 +1,6 @@
 -- The rows that are noted, step by step.
-use Rattle.std.proofs.Common.{◌≡◌, ◌≢◌, ◌⊎◌, ℕ, zero, suc, ◌+◌, ◌*◌, ◌<◌, ◌≤◌, List, [], ◌∷◌, sym, ap, ◌∙◌, refl, arith, length, drop, get_or, set, subst}
+use Rattle.std.proofs.Common.{◌≡◌, ◌≢◌, ◌⊎◌, ℕ, zero, suc, ◌+◌, ◌*◌, ◌<◌, ◌≤◌, List, [], ◌∷◌, sym, ap, ◌∙◌, refl, arith}
+use Rattle.std.proofs.Common.{length, drop, get_or, set, subst}
 use Rattle.std.proofs.Common.{true, false, inl, inr, length-set, get_or-set_same, get_or-set_other}
 use Rattle.std.specs.Prelude.{None, Some, Option, IfSome, slice_index, nat_le, replicate}
 use Rattle.std.specs.List.{list_all}
@@ -218,7 +219,7 @@ noted_none table keys width rows = record {
 }
 
 -- where every slot is empty no job is held
-none_held : (slots : List (Option Flight)) → list_all is_empty slots ≡ true → (lane : ℕ) →
+pub none_held : (slots : List (Option Flight)) → list_all is_empty slots ≡ true → (lane : ℕ) →
     get_or slots lane None ≡ None
 none_held [] empty lane = refl
 none_held (None ∷ slots) empty zero = refl

@@ -1,1 +1,2 @@
+pub mod Fleet
 pub mod Turn

@@ -1,8 +1,9 @@
 //! The verdicts of a batch, by turns of all lanes.
 
-ghost use Rattle.std.specs.Prelude.{◌≡◌, ◌+◌, ◌*◌, ◌≤◌, ◌==◌, length, map, take, drop, not, slice_index, true};
+ghost use Rattle.std.specs.Prelude.{◌≡◌, ℕ, ◌+◌, ◌*◌, ◌^◌, ◌<◌, ◌≤◌, ◌==◌, length, map, take, drop, not, slice_index, true};
 ghost use Rattle.std.specs.List.{range_with_len};
 ghost use Rattle.table_sizes.specs.Sizes.{row_len};
+ghost use Rattle.flat_table.specs.Table.{places_of};
 ghost use Rattle.flat_table.specs.Batch.{LengthsFit, keys_in, batch_verdicts};
 ghost use Rattle.flat_table.specs.Batch.{batch_transitions, most_of_batch};
 ghost use Rattle.flow_core.specs.Machine.{flow_from_first, turns, IsRounds};
@@ -10,8 +11,10 @@ ghost use Rattle.flow_core.specs.Standing.{BatchFits};
 ghost use Rattle.flow_core.specs.Laws.{AreJoined};
 ghost use Rattle.scalar_walk.specs.Lanes.{pieces_below};
 ghost use Rattle.scalar_walk.specs.Rows.{row_winners, batch_winners};
+ghost use Rattle.lane_walk.specs.Fleet.{IsStraight};
 ghost use Rattle.lane_walk.specs.Turn.{AreAllNoted, IsLanes};
 
+use crate::fleet::{Fleet, course_of, is_fleet};
 use crate::lanes::LaneFlows;
 use crate::rows::join_noted;
 use flat_table::laws::walks_go_step_by_step;
@@ -75,6 +78,46 @@ fn fly_of<const W: usize, const ONE: bool, L: Ledger>(
     Flown { taken, turns }
 }
 
+/// The same over a table of one trie whose places stand one after the other. The first turn gives
+/// out keys alone.
+#[inline]
+fn fly_straight<const W: usize, L: Ledger>(
+    table: &Table,
+    keys: &[u8],
+    scratch: &mut Scratch,
+    steps: &mut Steps<L>,
+) -> Flown
+    requires one { length table.now.roots ≡ 1 }
+    requires straight { IsStraight (places_of table.now 0) }
+    requires words { (0 < length table.now.words) × (length table.now.words < 2 ^ 32) }
+    requires bytes { (0 < length keys.now) × (length keys.now < 2 ^ 32) }
+    requires lanes { IsLanes W }
+    requires fits { BatchFits table.now keys.now (length scratch.old) }
+    ensures taken { result.taken ≡ batch_transitions table.now keys.now }
+    ensures steps { steps.new ≡ steps.old + batch_transitions table.now keys.now }
+    ensures turns { IsRounds table.now keys.now W result.turns }
+    ensures notes { AreAllNoted table.now keys.now scratch.new }
+    ensures others { drop (keys_in table.now keys.now) scratch.new
+        ≡ drop (keys_in table.now keys.now) scratch.old }
+    ensures len { length scratch.new ≡ length scratch.old }
+{
+    stay_in(table);
+    every_schedule();
+    walks_go_step_by_step();
+    let words = table.words();
+    let (last, last_byte) = ((words.len() - 1) as u32, (keys.len() - 1) as u32);
+    let mut fleet = Fleet::<W>::begin(course_of(table, keys));
+    let (mut taken, mut turns) = (0u64, 1u64);
+    while !fleet.done() {
+        let busy = fleet.turn(words, last, keys, last_byte, scratch);
+        raise_by(steps, busy);
+        taken += u64::from(busy);
+        turns += 1;
+    }
+    fleet.note_last(scratch);
+    Flown { taken, turns }
+}
+
 /// The turns over a table of one trie, or over any.
 fn note_walks<const W: usize, L: Ledger>(
     table: &Table,
@@ -92,10 +135,12 @@ fn note_walks<const W: usize, L: Ledger>(
         ≡ drop (keys_in table.now keys.now) scratch.old }
     ensures len { length scratch.new ≡ length scratch.old }
 {
-    if table.tries() == 1 {
-        fly_of::<W, true, L>(table, keys, scratch, steps)
-    } else {
+    if table.tries() != 1 {
         fly_of::<W, false, L>(table, keys, scratch, steps)
+    } else if is_fleet(table, keys) {
+        fly_straight::<W, L>(table, keys, scratch, steps)
+    } else {
+        fly_of::<W, true, L>(table, keys, scratch, steps)
     }
 }
 

@@ -5,7 +5,11 @@
 //! key byte, the places of the words that the four take are worked out at once, by a vector, and
 //! then they take their words, or their next jobs.
 //!
-//! - `flights`: what lanes keep, and how it goes on.
+//! Over a table of one trie whose places stand one after the other all lanes take a word at once,
+//! busy or not, and what an empty one takes is thrown away.
+//!
+//! - `fleet`: a turn over such a table, by a number for each lane.
+//! - `flights`: what lanes keep otherwise, and how it goes on.
 //! - `lanes`: the machine and its turn.
 //! - `noting`: the same turn, which notes the rows that walks reach instead of joining them.
 //! - `rows`: the rows of keys, joined of those that were noted.
@@ -15,6 +19,7 @@
 #![tactic(auto)]
 
 mod classify;
+mod fleet;
 mod flights;
 mod lanes;
 mod noting;

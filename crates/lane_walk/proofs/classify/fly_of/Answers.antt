@@ -66,7 +66,7 @@ loop-lanes-preserved g c =
       len = c.turn_noting-busy.ensures.len;
       others = c.turn_noting-busy.ensures.others;
       stands = c.turn_noting-busy.ensures.stands;
-      noted = c.turn_noting-busy.ensures.noted;
+      kept = c.turn_noting-busy.ensures.noted;
     } (omega (arith, c.raise_by.ensures, c.from-taken.ensures))
 
 pub loop-lanes-smaller : goal.loop-lanes-smaller
@@ -102,11 +102,7 @@ returns-clause-turns g c =
     rounds_are f c.loop-lanes.invariant (cc (c.done.ensures, c.loop-lanes-test.false))
 
 pub returns-clause-notes : goal.returns-clause-notes
-returns-clause-notes g c =
-    let f : Flies c.args.table.now c.args.keys.now =
-    flies c.walks_go_step_by_step.ensures c.stay_in.ensures.stay c.stay_in.ensures.sound
-    (λ i. omega (arith, c.type_inv.keys i)) in
-    noted_all f c.loop-lanes.invariant (cc (c.done.ensures, c.loop-lanes-test.false))
+returns-clause-notes g c = noted_all c.loop-lanes.invariant (cc (c.done.ensures, c.loop-lanes-test.false))
 
 pub returns-clause-others : goal.returns-clause-others
 returns-clause-others g c = c.loop-lanes.invariant.others
