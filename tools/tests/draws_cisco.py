@@ -1,5 +1,7 @@
 # SPDX-License-Identifier: BSD-3-Clause
-"""Lists of Cisco's IOS for the program aclc-lists: extended ones without groups, which it doesn't read."""
+"""Lists of Cisco's IOS for the program aclc-lists: extended ones without groups of services, which it
+doesn't read.
+"""
 import re
 
 import forms_cisco
@@ -22,10 +24,9 @@ class Walked:
         return forms_cisco.decide(self.text, fields)
 
 
-def without_groups(text):
-    """The text with UDP and all addresses in the place of groups in entries."""
-    text = re.sub(r"(permit|deny *) object-group SERVICES", r"\1 udp", text)
-    return re.sub(r"(permit|deny)( .*)", lambda it: re.sub("object-group [A-Z]+", "any", it.group()), text)
+def without_services(text):
+    """The text with UDP in the place of groups of services in entries."""
+    return re.sub(r"(permit|deny *) object-group SERVICES", r"\1 udp", text)
 
 
 def options(name, data="line"):
@@ -35,14 +36,14 @@ def options(name, data="line"):
 
 def draw(draw):
     """A configuration with the list 101."""
-    lines = without_groups(forms_cisco.draw(draw)).split("\n")
+    lines = without_services(forms_cisco.draw(draw)).split("\n")
     return Drawn(lines, "\n".join, options("101"), Walked, routers.Unknown)
 
 
 def has_no_part(text, number):
-    """Whether a line is one of a group, which no entry names here, or of another list than 101."""
+    """Whether a line is one of another list than 101."""
     begun = [line for line in text.split("\n")[:number] if re.match(r"object-group\b|(ip )?access-list\b", line)]
-    return bool(begun) and not re.match(r"(ip access-list extended|access-list) 101\b", begun[-1])
+    return bool(begun) and not re.match(r"(ip access-list extended|access-list) 101\b|object-group\b", begun[-1])
 
 
 def damaged(draw, lines):

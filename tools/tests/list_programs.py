@@ -2,9 +2,9 @@
 """Lists of iptables and of Cisco's IOS by the program aclc-lists, beside tools/convert and the lists' own judge.
 
 The program takes what iptables-save prints, and tools/convert also takes what people write, as masks and words in
-another order. Of a configuration the program takes extended lists without groups, and knows each line before it passes
-over it. So a list may be one that the program alone refuses. It alone takes a list only where the line that the tools
-refuse is one of a group, or of another list.
+another order. Of a configuration the program takes extended lists without groups of services, and knows each line before
+it passes over it. So a list may be one that the program alone refuses. It alone takes a list only where the line that
+the tools refuse is one of another list.
 """
 import random
 import tempfile

@@ -163,6 +163,8 @@ TAKEN = [
      [3, 5]),
     ("cisco", "ip access-list extended A\r\n permit ipinip any any\r\n permit nos any any\r\n", [2, 3]),
     ("cisco", "ip access-list extended 101\n permit tcp any any\naccess-list 101 permit udp any any\n", [2, 3]),
+    ("cisco", IOS_GROUPS.format("10.0.0.0/8\n range 192.0.2.1 192.0.2.6\n group-object M")
+     + "object-group network M\n 198.51.100.0 255.255.255.0\n", [6]),
     ("asa", "access-list A permit tcp any4 any4\naccess-list A line 1 extended deny udp any4 any4 log 3 interval 5\n",
      [2, 1]),
 ]

@@ -137,7 +137,7 @@ class Configurations(unittest.TestCase):
             for data in ("line", "verdict") if form == "cisco" else ():
                 with self.subTest(text=text, data=data):
                     taken += self.alike(text, name, data) is not None
-        self.assertEqual(taken, 10)
+        self.assertEqual(taken, 12)
 
     @BUILT
     def test_lists_that_the_tools_refuse_are_refused(self):

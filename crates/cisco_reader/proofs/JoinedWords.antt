@@ -5,7 +5,8 @@ use Rattle.std.proofs.lemmas.Bool.{cases_Bool, cond-true, cond-false}
 use Rattle.std.specs.Prelude.{codes}
 use Rattle.std.specs.Str.{bytes_eq}
 use Rattle.list_chains.specs.declared.span.Span.{Span}
-use Rattle.cisco_reader.specs.declared.wildcard.Wildcard.{Wildcard}
+use Rattle.cisco_reader.specs.declared.entry.Addresses.{Addresses}
+use Rattle.cisco_reader.specs.declared.entry.Addresses.TheVariants.{Group, Under}
 use Rattle.cisco_reader.specs.declared.ports.Operator.{Operator}
 use Rattle.cisco_reader.specs.declared.ports.Operator.TheVariants as operator
 use Rattle.cisco_reader.specs.declared.ports.PortPart.{PortPart}
@@ -14,7 +15,8 @@ use Rattle.cisco_reader.specs.declared.entry.Entry.{Entry}
 use Rattle.cisco_reader.specs.declared.fault.LineKind.{LineKind}
 use Rattle.cisco_reader.specs.declared.fault.LineKind.TheVariants.{BadAddress, BadMask, BadPort}
 use Rattle.cisco_reader.specs.Entry as entries
-use Rattle.cisco_reader.specs.Entry.{addresses, all_ones, checked, entry_of, has_ports, compares_ports, is_log, is_told, known, log_fault, masked, max_gaps, option_fault, options_fault, protocols, protocols_of, side_of, sides, under, unless, with_destination, with_mask}
+use Rattle.cisco_reader.specs.Entry.{addresses_of, all_ones, checked, entry_of, grouped, has_ports, compares_ports, is_log, is_told, known, log_fault, masked, max_gaps, option_fault, options_fault, protocols, protocols_of, side_of, sides, under, unless, with_destination, with_mask}
+use Rattle.cisco_reader.specs.Groups.{ListedGroup, place_for}
 use Rattle.cisco_reader.specs.Names.{port_of}
 use Rattle.cisco_reader.specs.PortList.{ended, listed, listed_then, max_ports}
 use Rattle.cisco_reader.specs.Ports.{compared, is_negated, next_port, operator_named, or_none, port_part, ports_above, ports_below, range, range_of}
@@ -45,70 +47,90 @@ made Is {read = read} part words value it is =
 -- ---- addresses
 
 -- one address
-host_reads : (word : List ℕ) (words : List (List ℕ)) (read : After Wildcard) → bytes_eq word (codes "host") ≡ true →
-    entries.host words ≡ Ok read → Reads AreAddresses (word ∷ words) read
-host_reads word [] read named is = absurd cc
-host_reads word (text ∷ words) read named is = by (ip4_plain text) refl is
+host_reads : (groups : List ListedGroup) (word : List ℕ) (words : List (List ℕ)) (read : After Addresses) →
+    bytes_eq word (codes "host") ≡ true →
+    entries.host words ≡ Ok read → Reads (AreAddresses groups) (word ∷ words) read
+host_reads groups word [] read named is = absurd cc
+host_reads groups word (text ∷ words) read named is = by (ip4_plain text) refl is
   where
     by : (found : Option ℕ) → ip4_plain text ≡ found →
         taken BadAddress found
-        (λ address. record { value = record { base = address; free = 0 }; words = words }) ≡ Ok read →
-        Reads AreAddresses (word ∷ text ∷ words) read
+        (λ address. record { value = Under (record { base = address; free = 0 }); words = words }) ≡ Ok read →
+        Reads (AreAddresses groups) (word ∷ text ∷ words) read
     by None plain is = absurd cc
     by (Some address) plain is =
-        made AreAddresses (word ∷ text ∷ []) words (record { base = address; free = 0 })
+        made (AreAddresses groups) (word ∷ text ∷ []) words (Under (record { base = address; free = 0 }))
         (joined.Host word text address named plain refl refl) is
 
 -- the addresses under a mask
-masked_reads : (text : List ℕ) (address : ℕ) (words : List (List ℕ)) (read : After Wildcard) →
-    ip4_plain text ≡ Some address → masked address words ≡ Ok read → Reads AreAddresses (text ∷ words) read
-masked_reads text address [] read plain is = absurd cc
-masked_reads text address (mask ∷ words) read plain is = by (ip4_plain mask) refl is
+masked_reads : (groups : List ListedGroup) (text : List ℕ) (address : ℕ) (words : List (List ℕ))
+    (read : After Addresses) →
+    ip4_plain text ≡ Some address → masked address words ≡ Ok read → Reads (AreAddresses groups) (text ∷ words) read
+masked_reads groups text address [] read plain is = absurd cc
+masked_reads groups text address (mask ∷ words) read plain is = by (ip4_plain mask) refl is
   where
     by : (found : Option ℕ) → ip4_plain mask ≡ found → known BadMask found (under address words) ≡ Ok read →
-        Reads AreAddresses (text ∷ mask ∷ words) read
+        Reads (AreAddresses groups) (text ∷ mask ∷ words) read
     by None said is = absurd cc
     by (Some free) said is =
         elim (cases_Bool (nat_lt max_gaps (gaps 32 free))) [
           | inl many ↦ absurd (let e = sym (cond-true (nat_lt max_gaps (gaps 32 free)) _ _ many) ∙ is in cc)
           | inr few ↦
-              made AreAddresses (text ∷ mask ∷ []) words (under_mask address free)
+              made (AreAddresses groups) (text ∷ mask ∷ []) words (Under (under_mask address free))
               (joined.Masked text mask address free plain said refl refl)
               (sym (cond-false (nat_lt max_gaps (gaps 32 free)) _ _ few) ∙ is)
         ]
 
 -- an address with its mask
-with_mask_reads : (text : List ℕ) (words : List (List ℕ)) (read : After Wildcard) → with_mask text words ≡ Ok read →
-    Reads AreAddresses (text ∷ words) read
-with_mask_reads text words read is = by (ip4_plain text) refl is
+with_mask_reads : (groups : List ListedGroup) (text : List ℕ) (words : List (List ℕ)) (read : After Addresses) →
+    with_mask text words ≡ Ok read → Reads (AreAddresses groups) (text ∷ words) read
+with_mask_reads groups text words read is = by (ip4_plain text) refl is
   where
     by : (found : Option ℕ) → ip4_plain text ≡ found →
         known BadAddress found (λ address. masked address words) ≡ Ok read →
-        Reads AreAddresses (text ∷ words) read
+        Reads (AreAddresses groups) (text ∷ words) read
     by None plain is = absurd cc
-    by (Some address) plain is = masked_reads text address words read plain is
+    by (Some address) plain is = masked_reads groups text address words read plain is
+
+-- those of a group
+grouped_reads : (groups : List ListedGroup) (word : List ℕ) (words : List (List ℕ)) (read : After Addresses) →
+    bytes_eq word (codes "object-group") ≡ true → grouped groups words ≡ Ok read →
+    Reads (AreAddresses groups) (word ∷ words) read
+grouped_reads groups word [] read named is = absurd cc
+grouped_reads groups word (name ∷ words) read named is = by (place_for groups (codes "network") name) refl is
+  where
+    by : (found : Result ℕ LineKind) → place_for groups (codes "network") name ≡ found →
+        (◌>>=◌ {B = After Addresses} found (λ place. Ok (record { value = Group place; words = words }))) ≡ Ok read →
+        Reads (AreAddresses groups) (word ∷ name ∷ words) read
+    by (Err kind) said is = absurd cc
+    by (Ok place) said is =
+        made (AreAddresses groups) (word ∷ name ∷ []) words (Group place)
+        (joined.Grouped word name place named said refl refl) is
 
 -- what stands for addresses
-addresses_read : (words : List (List ℕ)) (read : After Wildcard) → addresses words ≡ Ok read
-    → Reads AreAddresses words read
-addresses_read [] read is = absurd cc
-addresses_read (word ∷ words) read is =
+addresses_read : (groups : List ListedGroup) (words : List (List ℕ)) (read : After Addresses) →
+    addresses_of groups words ≡ Ok read → Reads (AreAddresses groups) words read
+addresses_read groups [] read is = absurd cc
+addresses_read groups (word ∷ words) read is =
     elim (cases_Bool (bytes_eq word (codes "any"))) [
       | inl all ↦
-          made AreAddresses (word ∷ []) words (record { base = 0; free = all_ones }) (joined.Any word all refl refl)
+          made (AreAddresses groups) (word ∷ []) words (Under (record { base = 0; free = all_ones }))
+          (joined.Any word all refl refl)
           (sym (cond-true (bytes_eq word (codes "any")) _ _ all) ∙ is)
       | inr some ↦
           let first = sym (cond-false (bytes_eq word (codes "any")) _ _ some) ∙ is in
           elim (cases_Bool (bytes_eq word (codes "host"))) [
             | inl named ↦
-                host_reads word words read named (sym (cond-true (bytes_eq word (codes "host")) _ _ named) ∙ first)
+                host_reads groups word words read named
+                (sym (cond-true (bytes_eq word (codes "host")) _ _ named) ∙ first)
             | inr other ↦
                 let second = sym (cond-false (bytes_eq word (codes "host")) _ _ other) ∙ first in
                 elim (cases_Bool (bytes_eq word (codes "object-group"))) [
                   | inl group ↦
-                      absurd (let e = sym (cond-true (bytes_eq word (codes "object-group")) _ _ group) ∙ second in cc)
+                      grouped_reads groups word words read group
+                      (sym (cond-true (bytes_eq word (codes "object-group")) _ _ group) ∙ second)
                   | inr none ↦
-                      with_mask_reads word words read
+                      with_mask_reads groups word words read
                       (sym (cond-false (bytes_eq word (codes "object-group")) _ _ none) ∙ second)
                 ]
           ]
@@ -311,42 +333,43 @@ ports_read (word ∷ words) read is = by (operator_named word) refl is
 -- ---- sides
 
 -- a side was read off the front of words: addresses, and ports
-record ReadsSide (words : List (List ℕ)) (read : After Side) : Type 0 where
+record ReadsSide (groups : List ListedGroup) (words : List (List ℕ)) (read : After Side) : Type 0 where
   addresses : List (List ℕ)
   ports : List (List ℕ)
-  are_addresses : AreAddresses addresses read.value.addresses
+  are_addresses : AreAddresses groups addresses read.value.addresses
   are_ports : AreCompared ports read.value.ports
   joined : addresses ++ (ports ++ read.words) ≡ words
 
-side_reads : (words : List (List ℕ)) (read : After Side) → side_of words ≡ Ok read → ReadsSide words read
-side_reads words read is = by (addresses words) refl is
+side_reads : (groups : List ListedGroup) (words : List (List ℕ)) (read : After Side) →
+    side_of groups words ≡ Ok read → ReadsSide groups words read
+side_reads groups words read is = by (addresses_of groups words) refl is
   where
-    with_ports : (found : After Wildcard) → addresses words ≡ Ok found →
+    with_ports : (found : After Addresses) → addresses_of groups words ≡ Ok found →
         (y : Result (After (Option PortPart)) LineKind) →
         port_part found.words ≡ y →
         (y >>= λ ports.
         Ok (record { value = record { addresses = found.value; ports = ports.value }; words = ports.words }))
-        ≡ Ok read → ReadsSide words read
+        ≡ Ok read → ReadsSide groups words read
     with_ports found first (Err kind) second is = absurd cc
     with_ports found first (Ok ports) second is =
-        let near = addresses_read words found first in
+        let near = addresses_read groups words found first in
         let far = ports_read found.words ports second in
         let e : record { value = record { addresses = found.value; ports = ports.value }; words = ports.words }
         ≡ read = cc in
         record {
           addresses = near.part;
           ports = far.part;
-          are_addresses = subst (λ (r : After Side). AreAddresses near.part r.value.addresses) e near.is;
+          are_addresses = subst (λ (r : After Side). AreAddresses groups near.part r.value.addresses) e near.is;
           are_ports = subst (λ (r : After Side). AreCompared far.part r.value.ports) e far.is;
           joined = ap (λ (r : After Side). near.part ++ (far.part ++ r.words)) (sym e)
               ∙ ap (λ ws. near.part ++ ws) far.joined
               ∙ near.joined;
         }
 
-    by : (x : Result (After Wildcard) LineKind) → addresses words ≡ x →
+    by : (x : Result (After Addresses) LineKind) → addresses_of groups words ≡ x →
         (x >>= λ found. (port_part found.words >>= λ ports.
         Ok (record { value = record { addresses = found.value; ports = ports.value }; words = ports.words })))
-        ≡ Ok read → ReadsSide words read
+        ≡ Ok read → ReadsSide groups words read
     by (Err kind) said is = absurd cc
     by (Ok found) said is = with_ports found said (port_part found.words) refl is
 
@@ -379,28 +402,28 @@ checked_same entry found is =
 
 -- the words of an entry that is read are such parts
 pub read_words_are_parts : joined.ReadWordsAreParts
-read_words_are_parts verdict words entry is = start words is
+read_words_are_parts groups verdict words entry is = start words is
   where
     -- both sides and the log were read
     whole : (word : List ℕ) (rest : List (List ℕ)) (span : Span) (source destination : After Side) →
-        protocols_of word ≡ Ok span → side_of rest ≡ Ok source → side_of source.words ≡ Ok destination →
+        protocols_of word ≡ Ok span → side_of groups rest ≡ Ok source → side_of groups source.words ≡ Ok destination →
         options_fault span destination.words ≡ None →
         checked (record {
           verdict = verdict;
           protocol = span;
           source = source.value;
           destination = destination.value;
-        }) ≡ Ok entry → IsEntry verdict (word ∷ rest) entry
+        }) ≡ Ok entry → IsEntry groups verdict (word ∷ rest) entry
     whole word rest span source destination named first second none is =
-        let near = side_reads rest source first in
-        let far = side_reads source.words destination second in
+        let near = side_reads groups rest source first in
+        let far = side_reads groups source.words destination second in
         let e = checked_same (record {
           verdict = verdict;
           protocol = span;
           source = source.value;
           destination = destination.value;
         }) entry is in
-        subst (IsEntry verdict (word ∷ rest)) e (record {
+        subst (IsEntry groups verdict (word ∷ rest)) e (record {
           protocol = word;
           source = near.addresses;
           source_ports = near.ports;
@@ -420,46 +443,46 @@ read_words_are_parts verdict words entry is = start words is
 
     logged : (word : List ℕ) (rest : List (List ℕ)) (span : Span) (source destination : After Side)
         (fault : Option LineKind) →
-        protocols_of word ≡ Ok span → side_of rest ≡ Ok source → side_of source.words ≡ Ok destination →
+        protocols_of word ≡ Ok span → side_of groups rest ≡ Ok source → side_of groups source.words ≡ Ok destination →
         options_fault span destination.words ≡ fault →
         unless fault (checked (record {
           verdict = verdict;
           protocol = span;
           source = source.value;
           destination = destination.value;
-        })) ≡ Ok entry → IsEntry verdict (word ∷ rest) entry
+        })) ≡ Ok entry → IsEntry groups verdict (word ∷ rest) entry
     logged word rest span source destination None named first second none is =
         whole word rest span source destination named first second none is
     logged word rest span source destination (Some kind) named first second some is = absurd cc
 
     second_side : (word : List ℕ) (rest : List (List ℕ)) (span : Span) (source : After Side)
         (y : Result (After Side) LineKind) →
-        protocols_of word ≡ Ok span → side_of rest ≡ Ok source → side_of source.words ≡ y →
+        protocols_of word ≡ Ok span → side_of groups rest ≡ Ok source → side_of groups source.words ≡ y →
         (y >>= λ destination. unless (options_fault span destination.words) (checked (record {
           verdict = verdict;
           protocol = span;
           source = source.value;
           destination = destination.value;
-        }))) ≡ Ok entry → IsEntry verdict (word ∷ rest) entry
+        }))) ≡ Ok entry → IsEntry groups verdict (word ∷ rest) entry
     second_side word rest span source (Err kind) named first second is = absurd cc
     second_side word rest span source (Ok destination) named first second is =
         logged word rest span source destination (options_fault span destination.words) named first second refl is
 
     first_side : (word : List ℕ) (rest : List (List ℕ)) (span : Span) (y : Result (After Side) LineKind) →
-        protocols_of word ≡ Ok span → side_of rest ≡ y →
-        (y >>= λ source. with_destination verdict span source.value source.words)
-        ≡ Ok entry → IsEntry verdict (word ∷ rest) entry
+        protocols_of word ≡ Ok span → side_of groups rest ≡ y →
+        (y >>= λ source. with_destination groups verdict span source.value source.words)
+        ≡ Ok entry → IsEntry groups verdict (word ∷ rest) entry
     first_side word rest span (Err kind) named first is = absurd cc
     first_side word rest span (Ok source) named first is =
-        second_side word rest span source (side_of source.words) named first refl is
+        second_side word rest span source (side_of groups source.words) named first refl is
 
     named_one : (word : List ℕ) (rest : List (List ℕ)) (y : Result Span LineKind) → protocols_of word ≡ y →
         (◌>>=◌ {A = After Span} (y >>= λ span. Ok (record { value = span; words = rest }))
-        (λ found. sides verdict found.value found.words)) ≡ Ok entry →
-        IsEntry verdict (word ∷ rest) entry
+        (λ found. sides groups verdict found.value found.words)) ≡ Ok entry →
+        IsEntry groups verdict (word ∷ rest) entry
     named_one word rest (Err kind) named is = absurd cc
-    named_one word rest (Ok span) named is = first_side word rest span (side_of rest) named refl is
+    named_one word rest (Ok span) named is = first_side word rest span (side_of groups rest) named refl is
 
-    start : (ws : List (List ℕ)) → entry_of verdict ws ≡ Ok entry → IsEntry verdict ws entry
+    start : (ws : List (List ℕ)) → entry_of groups verdict ws ≡ Ok entry → IsEntry groups verdict ws entry
     start [] is = absurd cc
     start (word ∷ rest) is = named_one word rest (protocols_of word) refl is

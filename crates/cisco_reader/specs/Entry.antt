@@ -6,7 +6,8 @@ use Rattle.std.specs.Prelude.{List, [], ◌∷◌, Option, Some, None, Result, O
 use Rattle.std.specs.Str.{bytes_eq}
 use Rattle.text_scan.specs.Parts.{words_of}
 use Rattle.list_chains.specs.declared.span.Span.{Span}
-use Rattle.cisco_reader.specs.declared.wildcard.Wildcard.{Wildcard}
+use Rattle.cisco_reader.specs.declared.entry.Addresses.{Addresses}
+use Rattle.cisco_reader.specs.declared.entry.Addresses.TheVariants as addresses
 use Rattle.cisco_reader.specs.declared.entry.Verdict.{Verdict}
 use Rattle.cisco_reader.specs.declared.entry.Side.{Side}
 use Rattle.cisco_reader.specs.declared.entry.Entry.{Entry}
@@ -14,6 +15,7 @@ use Rattle.cisco_reader.specs.declared.fault.LineKind.{LineKind}
 use Rattle.cisco_reader.specs.declared.fault.LineKind.TheVariants.{BadAddress, BadMask, BadProtocol, Compares, Group}
 use Rattle.cisco_reader.specs.declared.fault.LineKind.TheVariants.{IcmpType, MissingWord, NeedsProtocol}
 use Rattle.cisco_reader.specs.declared.fault.LineKind.TheVariants.{UnknownWord, ZeroProtocol}
+use Rattle.cisco_reader.specs.Groups.{ListedGroup, place_for}
 use Rattle.cisco_reader.specs.Names.{is_among, is_compared, max_protocol, protocol_of}
 use Rattle.cisco_reader.specs.Ports.{port_part}
 use Rattle.cisco_reader.specs.Read.{After, ◌>>=◌, taken}
@@ -30,16 +32,16 @@ abbrev pub max_gaps : ℕ
 max_gaps = 8
 
 -- one address
-abbrev pub host : List (List ℕ) → Result (After Wildcard) LineKind
+abbrev pub host : List (List ℕ) → Result (After Addresses) LineKind
 host [] = Err MissingWord
 host (word ∷ words) = taken BadAddress (ip4_plain word) (λ address.
-    record { value = record { base = address; free = 0 }; words = words })
+    record { value = addresses.Under (record { base = address; free = 0 }); words = words })
 
 -- the addresses under a mask, which has few gaps
-abbrev pub under : ℕ → List (List ℕ) → ℕ → Result (After Wildcard) LineKind
+abbrev pub under : ℕ → List (List ℕ) → ℕ → Result (After Addresses) LineKind
 under address words mask =
     if nat_lt max_gaps (gaps 32 mask) then Err BadMask
-    else Ok (record { value = under_mask address mask; words = words })
+    else Ok (record { value = addresses.Under (under_mask address mask); words = words })
 
 -- a number that isn't there is a fault, and one that is goes into what follows
 abbrev pub known : {A : Type 0} → LineKind → Option ℕ → (ℕ → Result A LineKind) → Result A LineKind
@@ -47,26 +49,36 @@ known kind None following = Err kind
 known kind (Some number) following = following number
 
 -- a wildcard mask after its address
-abbrev pub masked : ℕ → List (List ℕ) → Result (After Wildcard) LineKind
+abbrev pub masked : ℕ → List (List ℕ) → Result (After Addresses) LineKind
 masked address [] = Err MissingWord
 masked address (word ∷ words) = known BadMask (ip4_plain word) (under address words)
 
 -- an address with its wildcard mask
-abbrev pub with_mask : List ℕ → List (List ℕ) → Result (After Wildcard) LineKind
+abbrev pub with_mask : List ℕ → List (List ℕ) → Result (After Addresses) LineKind
 with_mask word words = known BadAddress (ip4_plain word) (λ address. masked address words)
 
--- what stands for addresses: all of them, one, or those under a mask
-abbrev pub addresses : List (List ℕ) → Result (After Wildcard) LineKind
-addresses [] = Err MissingWord
-addresses (word ∷ words) =
+-- those of a group of networks
+abbrev pub grouped : List ListedGroup → List (List ℕ) → Result (After Addresses) LineKind
+grouped groups [] = Err MissingWord
+grouped groups (name ∷ words) = place_for groups (codes "network") name >>= λ place.
+    Ok (record { value = addresses.Group place; words = words })
+
+-- what stands for addresses: all of them, one, those of a group, or those under a mask
+abbrev pub addresses_of : List ListedGroup → List (List ℕ) → Result (After Addresses) LineKind
+addresses_of groups [] = Err MissingWord
+addresses_of groups (word ∷ words) =
     if bytes_eq word (codes "any")
-    then Ok (record { value = record { base = 0; free = all_ones }; words = words })
+    then Ok (record {
+      value = addresses.Under (record { base = 0; free = all_ones });
+      words = words;
+    })
     else (if bytes_eq word (codes "host") then host words
-    else (if bytes_eq word (codes "object-group") then Err Group else with_mask word words))
+    else (if bytes_eq word (codes "object-group") then grouped groups words
+    else with_mask word words))
 
 -- a side of an entry: addresses, and ports where any are compared
-abbrev pub side_of : List (List ℕ) → Result (After Side) LineKind
-side_of words = addresses words >>= λ found. (port_part found.words >>= λ ports.
+abbrev pub side_of : List ListedGroup → List (List ℕ) → Result (After Side) LineKind
+side_of groups words = addresses_of groups words >>= λ found. (port_part found.words >>= λ ports.
     Ok (record {
       value = record { addresses = found.value; ports = ports.value };
       words = ports.words;
@@ -155,8 +167,9 @@ unless None read = read
 unless (Some kind) read = Err kind
 
 -- the destination, and what stands after it
-abbrev pub with_destination : Verdict → Span → Side → List (List ℕ) → Result Entry LineKind
-with_destination verdict span source words = side_of words >>= λ destination.
+abbrev pub with_destination : List ListedGroup → Verdict → Span → Side → List (List ℕ)
+    → Result Entry LineKind
+with_destination groups verdict span source words = side_of groups words >>= λ destination.
     unless (options_fault span destination.words) (checked (record {
       verdict = verdict;
       protocol = span;
@@ -165,10 +178,11 @@ with_destination verdict span source words = side_of words >>= λ destination.
     }))
 
 -- both sides, and what stands after them
-abbrev pub sides : Verdict → Span → List (List ℕ) → Result Entry LineKind
-sides verdict span words =
-    side_of words >>= λ source. with_destination verdict span source.value source.words
+abbrev pub sides : List ListedGroup → Verdict → Span → List (List ℕ) → Result Entry LineKind
+sides groups verdict span words = side_of groups words >>= λ source.
+    with_destination groups verdict span source.value source.words
 
 -- an entry after its verdict
-abbrev pub entry_of : Verdict → List (List ℕ) → Result Entry LineKind
-entry_of verdict words = protocols words >>= λ found. sides verdict found.value found.words
+abbrev pub entry_of : List ListedGroup → Verdict → List (List ℕ) → Result Entry LineKind
+entry_of groups verdict words =
+    protocols words >>= λ found. sides groups verdict found.value found.words

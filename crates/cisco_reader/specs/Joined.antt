@@ -1,30 +1,40 @@
--- The other way to say what the words of an entry are: its parts, one after the other, each with
--- what it stands for. So no word of an entry that is read is passed over.
-use Rattle.std.specs.Prelude.{◌≡◌, ℕ, true, false, codes, List, [], ◌∷◌, ◌++◌, map, Option, Some, None, Ok}
+-- The other way to say what the words of an entry and of a group's member are: its parts, one after
+-- the other, each with what it stands for. So no word of one that is read is passed over.
+use Rattle.std.specs.Prelude.{◌≡◌, ℕ, ◌+◌, ◌-◌, ◌==◌, true, false, codes, List, [], ◌∷◌, ◌++◌, map, Option, Some, None}
+use Rattle.std.specs.Prelude.{Ok}
 use Rattle.std.specs.Str.{bytes_eq}
+use Rattle.text_scan.specs.Parts.{slash, cut_at}
 use Rattle.list_chains.specs.declared.span.Span.{Span}
-use Rattle.cisco_reader.specs.declared.wildcard.Wildcard.{Wildcard}
+use Rattle.cisco_reader.specs.declared.entry.Addresses.{Addresses}
+use Rattle.cisco_reader.specs.declared.entry.Addresses.TheVariants.{Group, Under}
 use Rattle.cisco_reader.specs.declared.ports.Operator.TheVariants as operator
 use Rattle.cisco_reader.specs.declared.ports.PortPart.{PortPart}
 use Rattle.cisco_reader.specs.declared.entry.Verdict.{Verdict}
 use Rattle.cisco_reader.specs.declared.entry.Entry.{Entry}
 use Rattle.cisco_reader.specs.Entry.{all_ones, entry_of, is_log, protocols_of}
-use Rattle.cisco_reader.specs.Names.{port_of}
+use Rattle.cisco_reader.specs.Groups.{ListedGroup, place_for}
+use Rattle.cisco_reader.specs.Members.{network_of_words, prefix_span}
+use Rattle.cisco_reader.specs.Names.{number_of, port_of}
 use Rattle.cisco_reader.specs.Ports.{operator_named, ports_above, ports_below}
 use Rattle.cisco_reader.specs.Wildcard.{ip4_plain, under_mask}
 
 -- ---- addresses
 
--- The words for addresses: `any`; `host` and an address; or an address and its wildcard mask.
-pub data AreAddresses (words : List (List ℕ)) (it : Wildcard) : Type 0 where
+-- The words for addresses: `any`; `host` and an address; an address and its wildcard mask; or
+-- `object-group` and the name of a group of networks.
+pub data AreAddresses (groups : List ListedGroup) (words : List (List ℕ)) (it : Addresses) :
+    Type 0 where
   Any : (word : List ℕ) → bytes_eq word (codes "any") ≡ true → words ≡ word ∷ []
-      → it ≡ record { base = 0; free = all_ones } → AreAddresses words it
+      → it ≡ Under (record { base = 0; free = all_ones }) → AreAddresses groups words it
   Host : (word text : List ℕ) (address : ℕ) → bytes_eq word (codes "host") ≡ true
       → ip4_plain text ≡ Some address → words ≡ word ∷ text ∷ []
-      → it ≡ record { base = address; free = 0 } → AreAddresses words it
+      → it ≡ Under (record { base = address; free = 0 }) → AreAddresses groups words it
   Masked : (text mask : List ℕ) (address free : ℕ) → ip4_plain text ≡ Some address
-      → ip4_plain mask ≡ Some free → words ≡ text ∷ mask ∷ [] → it ≡ under_mask address free
-      → AreAddresses words it
+      → ip4_plain mask ≡ Some free → words ≡ text ∷ mask ∷ []
+      → it ≡ Under (under_mask address free) → AreAddresses groups words it
+  Grouped : (word name : List ℕ) (place : ℕ) → bytes_eq word (codes "object-group") ≡ true
+      → place_for groups (codes "network") name ≡ Ok place → words ≡ word ∷ name ∷ []
+      → it ≡ Group place → AreAddresses groups words it
 
 -- ---- ports
 
@@ -70,7 +80,8 @@ pub data AreLog (words : List (List ℕ)) : Type 0 where
 -- ---- the entry
 
 -- words after the verdict that are such parts, one after the other, and what they stand for
-pub record IsEntry (verdict : Verdict) (words : List (List ℕ)) (entry : Entry) : Type 0 where
+pub record IsEntry (groups : List ListedGroup) (verdict : Verdict) (words : List (List ℕ))
+    (entry : Entry) : Type 0 where
   pub protocol : List ℕ
   pub source : List (List ℕ)
   pub source_ports : List (List ℕ)
@@ -79,9 +90,9 @@ pub record IsEntry (verdict : Verdict) (words : List (List ℕ)) (entry : Entry)
   pub log : List (List ℕ)
   pub permits : entry.verdict ≡ verdict
   pub protocols : protocols_of protocol ≡ Ok entry.protocol
-  pub sources : AreAddresses source entry.source.addresses
+  pub sources : AreAddresses groups source entry.source.addresses
   pub compared_sources : AreCompared source_ports entry.source.ports
-  pub destinations : AreAddresses destination entry.destination.addresses
+  pub destinations : AreAddresses groups destination entry.destination.addresses
   pub compared_destinations : AreCompared destination_ports entry.destination.ports
   pub logs : AreLog log
   pub joined : protocol ∷ (source ++ (source_ports ++ (destination ++ (destination_ports ++ log))))
@@ -90,5 +101,36 @@ pub record IsEntry (verdict : Verdict) (words : List (List ℕ)) (entry : Entry)
 -- the words of an entry that is read are such parts
 abbrev pub ReadWordsAreParts : Type 0
 ReadWordsAreParts =
-    (verdict : Verdict) (words : List (List ℕ)) (entry : Entry) → entry_of verdict words ≡ Ok entry
-    → IsEntry verdict words entry
+    (groups : List ListedGroup) (verdict : Verdict) (words : List (List ℕ)) (entry : Entry)
+    → entry_of groups verdict words ≡ Ok entry → IsEntry groups verdict words entry
+
+-- ---- members of groups
+
+-- The words of a member of a group of networks: `any`; `host` and an address; `range` and two; or
+-- an address that stands alone, with the length of its prefix in one word or two, or with its mask.
+pub data IsNetwork (words : List (List ℕ)) (it : Span) : Type 0 where
+  All : (word : List ℕ) → bytes_eq word (codes "any") ≡ true → words ≡ word ∷ []
+      → it ≡ record { low = 0; high = all_ones } → IsNetwork words it
+  One : (word text : List ℕ) (address : ℕ) → bytes_eq word (codes "host") ≡ true
+      → ip4_plain text ≡ Some address → words ≡ word ∷ text ∷ [] → it ≡ one address
+      → IsNetwork words it
+  Between : (word first last : List ℕ) (low high : ℕ) → bytes_eq word (codes "range") ≡ true
+      → ip4_plain first ≡ Some low → ip4_plain last ≡ Some high → words ≡ word ∷ first ∷ last ∷ []
+      → it ≡ record { low = low; high = high } → IsNetwork words it
+  Alone : (text : List ℕ) (address : ℕ) → ip4_plain text ≡ Some address → words ≡ text ∷ []
+      → it ≡ one address → IsNetwork words it
+  Short : (word text digits : List ℕ) (address bits : ℕ) → cut_at slash word ≡ Some (text, digits)
+      → ip4_plain text ≡ Some address → number_of 32 digits ≡ Some bits → words ≡ word ∷ []
+      → it ≡ prefix_span address (32 - bits) → IsNetwork words it
+  Long : (text : List ℕ) (mark : ℕ) (digits : List ℕ) (address bits : ℕ) → (mark == slash) ≡ true
+      → ip4_plain text ≡ Some address → number_of 32 digits ≡ Some bits
+      → words ≡ text ∷ (mark ∷ digits) ∷ [] → it ≡ prefix_span address (32 - bits)
+      → IsNetwork words it
+  WithMask : (text mask : List ℕ) (address bits : ℕ) → ip4_plain text ≡ Some address
+      → ip4_plain mask ≡ Some bits → words ≡ text ∷ mask ∷ []
+      → it ≡ record { low = address; high = address + (all_ones - bits) } → IsNetwork words it
+
+-- the words of a member that is read are such parts
+abbrev pub ReadMembersAreParts : Type 0
+ReadMembersAreParts =
+    (words : List (List ℕ)) (it : Span) → network_of_words words ≡ Ok it → IsNetwork words it

@@ -1,7 +1,7 @@
 -- The list of a name in a configuration, line by line (Cisco IOS Security Command Reference,
 -- "access-list (IP extended)" and "ip access-list"). Other lists, and other parts of a
 -- configuration, have no part in it.
-use Rattle.std.specs.Prelude.{ℕ, ◌+◌, ◌==◌, Bool, true, false, not, ◌||◌, nat_lt, max}
+use Rattle.std.specs.Prelude.{ℕ, ◌==◌, Bool, true, false, not, ◌||◌, max}
 use Rattle.std.specs.Prelude.{if◌then◌else◌, codes, List, [], ◌∷◌, length, drop, Option, Result, Ok, Err}
 use Rattle.std.specs.List.{insert}
 use Rattle.std.specs.Str.{bytes_eq}
@@ -16,28 +16,27 @@ use Rattle.cisco_reader.specs.declared.list.Stage.TheVariants as stage
 use Rattle.cisco_reader.specs.declared.sequence.Loose.{Loose}
 use Rattle.cisco_reader.specs.declared.sequence.Loose.TheVariants as loose
 use Rattle.cisco_reader.specs.declared.sequence.Placed.{Placed}
-use Rattle.cisco_reader.specs.declared.reading.TheConstants.{MAX_LIST}
 use Rattle.cisco_reader.specs.declared.fault.LineFault.{LineFault}
 use Rattle.cisco_reader.specs.declared.fault.LineKind.{LineKind}
-use Rattle.cisco_reader.specs.declared.fault.LineKind.TheVariants.{BadList, Compares, FileTooLong}
+use Rattle.cisco_reader.specs.declared.fault.LineKind.TheVariants.{BadList, Compares}
 use Rattle.cisco_reader.specs.declared.fault.LineKind.TheVariants.{MissingWord, NoEntries, NoEntry}
 use Rattle.cisco_reader.specs.declared.fault.LineKind.TheVariants.{NoList, NotExtended, SequenceTwice, StrayEntry}
 use Rattle.cisco_reader.specs.declared.fault.LineKind.TheVariants.{TakenOut, UnknownLine, UnknownWord}
 use Rattle.cisco_reader.specs.declared.fault.LineKind.TheVariants.{Wrapped}
 use Rattle.cisco_reader.specs.Entry.{entry_of}
+use Rattle.cisco_reader.specs.Groups.{ListedGroup}
 use Rattle.cisco_reader.specs.Heads.{after_number, begins_among, head_of, is_extended, is_other, is_standard}
 use Rattle.cisco_reader.specs.Heads.{may_be_extended, rest_of}
+unfoldable pub use Rattle.cisco_reader.specs.Lines.{with_lines}
 use Rattle.cisco_reader.specs.Names.{is_among, is_compared}
 use Rattle.cisco_reader.specs.Read.{◌>>=◌}
 use Rattle.cisco_reader.specs.Sequence.{first_number, has_number, loose_after_remark, numbered_after, place_of}
 
--- how many bytes a configuration may have
-abbrev pub max_list : ℕ
-max_list = MAX_LIST
-
--- where the next line stands, whether the list was begun, what is known of entries without a
--- number, the greatest number so far, and the entries in the order of their numbers
+-- the groups of the file, where the next line stands, whether the list was begun, what is known of
+-- entries without a number, the greatest number so far, and the entries in the order of their
+-- numbers
 pub record ListSoFar : Type 0 where
+  pub groups : List ListedGroup
   pub stage : Stage
   pub begun : Bool
   pub loose : Loose
@@ -45,9 +44,15 @@ pub record ListSoFar : Type 0 where
   pub entries : List Placed
 
 -- nothing was read
-abbrev pub no_list : ListSoFar
-no_list =
-    record { stage = stage.Outside; begun = false; loose = loose.None; last = 0; entries = [] }
+abbrev pub no_list : List ListedGroup → ListSoFar
+no_list groups = record {
+  groups = groups;
+  stage = stage.Outside;
+  begun = false;
+  loose = loose.None;
+  last = 0;
+  entries = [];
+}
 
 -- ---- entries
 
@@ -74,7 +79,8 @@ with_entry line number list entry = numbered_after list.loose list.last number >
 -- the list with an entry of a verdict
 abbrev pub with_verdict : ℕ → Option ℕ → ListSoFar → Verdict → List (List ℕ)
     → Result ListSoFar LineKind
-with_verdict line number list verdict words = entry_of verdict words >>= with_entry line number list
+with_verdict line number list verdict words =
+    entry_of list.groups verdict words >>= with_entry line number list
 
 -- why an entry isn't read that neither permits nor denies
 abbrev pub act_fault : List ℕ → LineKind
@@ -261,21 +267,7 @@ ended number list =
     else (if length list.entries == 0 then Err (record { line = number; kind = NoEntries })
     else Ok list.entries)
 
--- the fault of a line, or what the lines after it make
-abbrev pub line_then : ℕ → Result ListSoFar LineKind
-    → (ListSoFar → Result (List Placed) LineFault) → Result (List Placed) LineFault
-line_then number (Err kind) following = Err (record { line = number; kind = kind })
-line_then number (Ok list) following = following list
-
--- what lines make of a list after so many lines: the first fault is that of the file
-unfoldable pub with_lines : List ℕ → ℕ → ListSoFar → List (List ℕ) → Result (List Placed) LineFault
-with_lines asked number list [] = ended number list
-with_lines asked number list (line ∷ lines) =
-    line_then (number + 1) (with_line asked (number + 1) list line)
-    (λ more. with_lines asked (number + 1) more lines)
-
--- the entries of the list of a name in a file, or the first fault
-abbrev pub entries_of : List ℕ → List ℕ → Result (List Placed) LineFault
-entries_of asked bytes =
-    if nat_lt max_list (length bytes) then Err (record { line = 0; kind = FileTooLong })
-    else with_lines asked 0 no_list (lines_of bytes)
+-- the entries of the list of a name in a file with these groups, or the first fault
+abbrev pub entries_of : List ListedGroup → List ℕ → List ℕ → Result (List Placed) LineFault
+entries_of groups asked bytes =
+    with_lines (with_line asked) ended 0 (no_list groups) (lines_of bytes)

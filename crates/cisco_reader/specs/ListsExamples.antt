@@ -3,6 +3,7 @@
 use Rattle.std.specs.Prelude.{◌≡◌, ℕ, ◌++◌, List, [], ◌∷◌, codes, true, false, Some, None, Result, Ok, Err, refl}
 use Rattle.std.specs.Fmt.{digits}
 use Rattle.list_chains.specs.declared.span.Span.{Span}
+use Rattle.cisco_reader.specs.declared.entry.Addresses.TheVariants.{Under}
 use Rattle.cisco_reader.specs.declared.entry.Side.{Side}
 use Rattle.cisco_reader.specs.declared.entry.Verdict.{Verdict}
 use Rattle.cisco_reader.specs.declared.entry.Verdict.TheVariants.{Permit, Deny}
@@ -11,9 +12,12 @@ use Rattle.cisco_reader.specs.declared.fault.LineKind.{LineKind}
 use Rattle.cisco_reader.specs.declared.fault.LineKind.TheVariants as kind
 use Rattle.cisco_reader.specs.declared.sequence.Placed.{Placed}
 use Rattle.cisco_reader.specs.Entry.{log_words}
+use Rattle.cisco_reader.specs.Groups.{groups_of}
 use Rattle.cisco_reader.specs.Heads.{begins_part, is_end, is_entry, is_ip, is_named, named_words, part_words}
-use Rattle.cisco_reader.specs.Lists.{entries_of, entry_words, is_unread, setting_words, unread_kinds, with_lines}
+use Rattle.cisco_reader.specs.Lines.{with_lines}
+use Rattle.cisco_reader.specs.Lists.{entries_of, entry_words, is_unread, setting_words, unread_kinds}
 use Rattle.cisco_reader.specs.Names.{compared_words, is_among, number_named, port_table, protocol_table}
+use Rattle.cisco_reader.specs.Read.{◌>>=◌}
 
 -- the numbers from one to another
 infixl 20 ◌to◌
@@ -22,11 +26,11 @@ low to high = record { low = low; high = high }
 
 -- all addresses
 abbrev any : Side
-any = record { addresses = record { base = 0; free = 4294967295 }; ports = None }
+any = record { addresses = Under (record { base = 0; free = 4294967295 }); ports = None }
 
 -- one address
 abbrev host : ℕ → Side
-host address = record { addresses = record { base = address; free = 0 }; ports = None }
+host address = record { addresses = Under (record { base = address; free = 0 }); ports = None }
 
 -- the same with ports
 abbrev ported : Side → List Span → Side
@@ -49,9 +53,13 @@ entry sequence line verdict protocol source destination = record {
   };
 }
 
+-- what the list of a name says
+abbrev said_of : List ℕ → List ℕ → Result (List Placed) LineFault
+said_of name text = groups_of text >>= λ groups. entries_of groups name text
+
 -- what the list A says
 abbrev said_by : List ℕ → Result (List Placed) LineFault
-said_by text = entries_of (codes "A") text
+said_by text = said_of (codes "A") text
 
 -- what it says where one entry stands in its second line
 abbrev one : List ℕ → Result (List Placed) LineFault
@@ -64,7 +72,7 @@ faulty line kind = Err (record { line = line; kind = kind })
 -- ---- lists
 
 -- numbered: the entries are those of list 101 alone
-numbered : entries_of (codes "101")
+numbered : said_of (codes "101")
     (codes "access-list 101 permit tcp host 10.1.0.7 any eq 22\naccess-list 102 deny ip any any\n"
     ++ codes "access-list 101 remark the rest is refused\n"
     ++ codes "access-list 101 deny   udp any any eq ntp\n")
@@ -184,14 +192,14 @@ unfolding with_lines digits is_among number_named port_table protocol_table comp
     log_words is_entry is_end is_ip is_named named_words begins_part part_words entry_words
 other_list = refl
 
-wrapped : entries_of (codes "101") (codes "access-list 101 permit tcp any any\n eq 443\n")
+wrapped : said_of (codes "101") (codes "access-list 101 permit tcp any any\n eq 443\n")
     ≡ faulty 2 kind.Wrapped
 unfolding with_lines digits is_among number_named port_table protocol_table compared_words
     log_words is_entry is_end is_ip is_named named_words begins_part part_words entry_words
 wrapped = refl
 
 of_the_other_device :
-    entries_of (codes "OUT") (codes "access-list OUT extended permit ip any any\n")
+    said_of (codes "OUT") (codes "access-list OUT extended permit ip any any\n")
     ≡ faulty 1 kind.BadList
 unfolding with_lines digits is_among number_named port_table protocol_table compared_words
     log_words is_entry is_end is_ip is_named named_words begins_part part_words entry_words

@@ -2,8 +2,8 @@
 -- catches, but for those with a port after `neq`. An entry catches the packets of its protocol
 -- whose source and destination have the addresses and the ports that it names (Cisco IOS Security
 -- Command Reference, "permit (IP)").
-use Rattle.std.specs.Prelude.{ℕ, ◌-◌, ◌^◌, if◌then◌else◌, List, [], ◌∷◌, ◌++◌, map, flat_map, Option, Some, None}
-use Rattle.std.specs.Prelude.{Result, Ok, Err}
+use Rattle.std.specs.Prelude.{ℕ, ◌-◌, ◌*◌, ◌^◌, nat_lt, if◌then◌else◌, List, [], ◌∷◌, ◌++◌, length, map, flat_map}
+use Rattle.std.specs.Prelude.{Option, Some, None, Result, Ok, Err}
 use Rattle.list_chains.specs.declared.span.Span.{Span}
 use Rattle.list_chains.specs.declared.chain.Target.TheVariants.{Decide}
 use Rattle.list_chains.specs.Chains.{ListRule}
@@ -15,9 +15,13 @@ use Rattle.cisco_reader.specs.declared.packets.Answers.{Answers}
 use Rattle.cisco_reader.specs.declared.packets.Answers.TheVariants as answers
 use Rattle.cisco_reader.specs.declared.packets.Packets.{Packets}
 use Rattle.cisco_reader.specs.declared.ports.PortPart.{PortPart}
+use Rattle.cisco_reader.specs.declared.reading.TheConstants.{MAX_LIST}
 use Rattle.cisco_reader.specs.declared.fault.LineFault.{LineFault}
+use Rattle.cisco_reader.specs.declared.fault.LineKind.TheVariants.{FileTooLong, LargeGroup}
+use Rattle.cisco_reader.specs.Groups.{ListedGroup, groups_of}
+use Rattle.cisco_reader.specs.Held.{address_spans, max_held}
 use Rattle.cisco_reader.specs.Lists.{entries_of}
-use Rattle.cisco_reader.specs.Wildcard.{spans_under}
+use Rattle.cisco_reader.specs.Read.{◌>>=◌, all_after}
 
 -- all numbers of so many bits
 abbrev pub any : ℕ → Span
@@ -123,28 +127,50 @@ abbrev pub answer_of : Answers → ℕ → Verdict → ℕ
 answer_of answers.Line line said = line
 answer_of answers.Verdict line said = verdict_answer said
 
--- the parts of an entry
-abbrev pub parts_of : Answers → Placed → EntryParts
-parts_of asked it = record {
+-- the parts of an entry, whose addresses are these
+abbrev pub parts_of : Answers → Placed → List Span → List Span → EntryParts
+parts_of asked it sources destinations = record {
   answer = answer_of asked it.line it.entry.verdict;
   left = left_out it.entry;
-  sources = spans_under it.entry.source.addresses;
-  destinations = spans_under it.entry.destination.addresses;
+  sources = sources;
+  destinations = destinations;
   source_ports = kept_ports it.entry.source.ports;
   destination_ports = kept_ports it.entry.destination.ports;
 }
 
--- the rules of an entry
-abbrev pub rules_of : Answers → Placed → List (ListRule (List Span))
-rules_of asked it =
-    from_rules (parts_of asked it) (record all_packets { protocol = it.entry.protocol })
-
--- the rules of entries, or the fault of the list
-abbrev pub rules_then : Answers → Result (List Placed) LineFault
+-- the rules of an entry with these addresses, if they don't make too many pairs
+abbrev pub paired : Answers → Placed → List Span → List Span
     → Result (List (ListRule (List Span))) LineFault
-rules_then asked (Ok entries) = Ok (flat_map (rules_of asked) entries)
-rules_then asked (Err fault) = Err fault
+paired asked it sources destinations =
+    if nat_lt max_held (length sources * length destinations)
+    then Err (record { line = it.line; kind = LargeGroup })
+    else Ok (from_rules (parts_of asked it sources destinations)
+    (record all_packets { protocol = it.entry.protocol }))
 
--- the rules of the list of a name in a configuration, in their order, or the first fault
+-- the rules of an entry, with what its groups hold
+abbrev pub rules_of : List ListedGroup → Answers → Placed
+    → Result (List (ListRule (List Span))) LineFault
+rules_of groups asked it = address_spans groups it.line it.entry.source.addresses >>= λ sources.
+    (address_spans groups it.line it.entry.destination.addresses >>= paired asked it sources)
+
+-- the rules so far, and those of an entry
+abbrev pub with_rules : List ListedGroup → Answers → List (ListRule (List Span)) → Placed
+    → Result (List (ListRule (List Span))) LineFault
+with_rules groups asked so_far it = rules_of groups asked it >>= λ rules. Ok (so_far ++ rules)
+
+-- the rules of entries, or the fault of the first one that has some
+abbrev pub all_rules : List ListedGroup → Answers → List Placed
+    → Result (List (ListRule (List Span))) LineFault
+all_rules groups asked entries = all_after (with_rules groups asked) [] entries
+
+-- how many bytes a configuration may have
+abbrev pub max_list : ℕ
+max_list = MAX_LIST
+
+-- the rules of the list of a name in a configuration, in their order, or the first fault: of the
+-- heads of its groups, of its lines, and then of the members that its entries need
 abbrev pub list_of : Answers → List ℕ → List ℕ → Result (List (ListRule (List Span))) LineFault
-list_of asked name bytes = rules_then asked (entries_of name bytes)
+list_of asked name bytes =
+    if nat_lt max_list (length bytes) then Err (record { line = 0; kind = FileTooLong })
+    else (groups_of bytes >>= λ groups.
+    (entries_of groups name bytes >>= all_rules groups asked))

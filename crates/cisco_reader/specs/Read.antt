@@ -1,5 +1,5 @@
--- What was read of a line, and the words after it.
-use Rattle.std.specs.Prelude.{ℕ, List, Option, Some, None, Result, Ok, Err}
+-- What was read of a line, and the words after it; and what is made element by element.
+use Rattle.std.specs.Prelude.{ℕ, List, [], ◌∷◌, Option, Some, None, Result, Ok, Err}
 use Rattle.cisco_reader.specs.declared.fault.LineKind.{LineKind}
 
 -- what was read, and the words after it
@@ -9,7 +9,7 @@ pub record After (A : Type 0) : Type 0 where
 
 infixl 10 ◌>>=◌
 -- what was read goes into what follows it, and a fault ends the reading
-abbrev pub ◌>>=◌ : {A B : Type 0} → Result A LineKind → (A → Result B LineKind) → Result B LineKind
+abbrev pub ◌>>=◌ : {A B E : Type 0} → Result A E → (A → Result B E) → Result B E
 (Ok value) >>= following = following value
 (Err kind) >>= following = Err kind
 
@@ -17,3 +17,8 @@ abbrev pub ◌>>=◌ : {A B : Type 0} → Result A LineKind → (A → Result B 
 abbrev pub taken : {A B : Type 0} → LineKind → Option A → (A → B) → Result B LineKind
 taken kind None make = Err kind
 taken kind (Some value) make = Ok (make value)
+
+-- what some elements make of a state, one after the other; the first fault ends it
+abbrev pub all_after : {S X E : Type 0} → (S → X → Result S E) → S → List X → Result S E
+all_after step state [] = Ok state
+all_after step state (x ∷ xs) = step state x >>= λ next. all_after step next xs

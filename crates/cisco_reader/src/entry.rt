@@ -2,13 +2,14 @@
 
 ghost use Rattle.std.specs.Prelude.{◌≡◌, MatchResult, Ok, Err};
 ghost use Rattle.text_scan.specs.Parts.{words_of};
-ghost use Rattle.cisco_reader.specs.Entry.{addresses, checked, compares_ports, entry_of, has_ports, has_types};
+ghost use Rattle.cisco_reader.specs.Entry.{addresses_of, checked, compares_ports, entry_of, grouped, has_ports};
 ghost use Rattle.cisco_reader.specs.Entry.{host, is_log, is_one, is_told, log_fault, log_words, masked, one_protocol};
-ghost use Rattle.cisco_reader.specs.Entry.{option_fault};
+ghost use Rattle.cisco_reader.specs.Entry.{has_types, option_fault};
 ghost use Rattle.cisco_reader.specs.Entry.{options_fault, protocols, protocols_of, side_of, sides, under};
 ghost use Rattle.cisco_reader.specs.Entry.{with_destination, with_mask};
 
 use crate::fault::LineKind;
+use crate::groups::{Group, place_for};
 use crate::names::{MAX_PROTOCOL, is_among, is_compared, protocol_number};
 use crate::ports::{PortPart, port_part};
 use crate::wildcard::{Wildcard, gaps, ip4_plain, under_mask};
@@ -19,10 +20,10 @@ use text_scan::next_word;
 const MAX_GAPS: u32 = 8;
 
 /// All addresses of IPv4.
-const ANY_ADDRESS: Wildcard = Wildcard {
+const ANY_ADDRESS: Addresses = Addresses::Under(Wildcard {
     base: 0,
     free: 4_294_967_295,
-};
+});
 
 /// All protocols.
 const ANY_PROTOCOL: Span = Span {
@@ -37,10 +38,19 @@ pub(crate) enum Verdict {
     Deny,
 }
 
+/// Addresses of a side.
+#[derive(Clone, Copy)]
+pub(crate) enum Addresses {
+    /// Those under a wildcard mask.
+    Under(Wildcard),
+    /// Those of the group of a place.
+    Group(usize),
+}
+
 /// A side of an entry: addresses, and the ports that are compared.
 #[derive(Drop)]
 pub(crate) struct Side {
-    pub(crate) addresses: Wildcard,
+    pub(crate) addresses: Addresses,
     pub(crate) ports: Option<PortPart>,
 }
 
@@ -54,7 +64,7 @@ pub(crate) struct Entry {
 }
 
 /// One address, and the text after it.
-fn host(text: &[u8]) -> Result<(Wildcard, &[u8]), LineKind>
+fn host(text: &[u8]) -> Result<(Addresses, &[u8]), LineKind>
     ensures { MatchResult result
         (λ read. host (words_of text.now)
         ≡ Ok (record { value = read.0; words = words_of read.1.now }))
@@ -65,10 +75,10 @@ fn host(text: &[u8]) -> Result<(Wildcard, &[u8]), LineKind>
     };
     match ip4_plain(word) {
         Some(address) => Ok((
-            Wildcard {
+            Addresses::Under(Wildcard {
                 base: u64::from(address),
                 free: 0,
-            },
+            }),
             rest,
         )),
         None => Err(LineKind::BadAddress),
@@ -76,7 +86,7 @@ fn host(text: &[u8]) -> Result<(Wildcard, &[u8]), LineKind>
 }
 
 /// The addresses under a mask, and the text after it.
-fn under(address: u32, text: &[u8], mask: u32) -> Result<(Wildcard, &[u8]), LineKind>
+fn under(address: u32, text: &[u8], mask: u32) -> Result<(Addresses, &[u8]), LineKind>
     ensures { MatchResult result
         (λ read. under address (words_of text.now) mask
         ≡ Ok (record { value = read.0; words = words_of read.1.now }))
@@ -85,11 +95,11 @@ fn under(address: u32, text: &[u8], mask: u32) -> Result<(Wildcard, &[u8]), Line
     if gaps(32, u64::from(mask)) > MAX_GAPS {
         return Err(LineKind::BadMask);
     }
-    Ok((under_mask(address, mask), text))
+    Ok((Addresses::Under(under_mask(address, mask)), text))
 }
 
 /// The addresses under the mask that comes next, and the text after it.
-fn masked(address: u32, text: &[u8]) -> Result<(Wildcard, &[u8]), LineKind>
+fn masked(address: u32, text: &[u8]) -> Result<(Addresses, &[u8]), LineKind>
     ensures { MatchResult result
         (λ read. masked address (words_of text.now)
         ≡ Ok (record { value = read.0; words = words_of read.1.now }))
@@ -105,7 +115,7 @@ fn masked(address: u32, text: &[u8]) -> Result<(Wildcard, &[u8]), LineKind>
 }
 
 /// An address with its wildcard mask, and the text after it.
-fn with_mask<'a>(word: &[u8], text: &'a [u8]) -> Result<(Wildcard, &'a [u8]), LineKind>
+fn with_mask<'a>(word: &[u8], text: &'a [u8]) -> Result<(Addresses, &'a [u8]), LineKind>
     ensures { MatchResult result
         (λ read. with_mask word.now (words_of text.now)
         ≡ Ok (record { value = read.0; words = words_of read.1.now }))
@@ -117,12 +127,26 @@ fn with_mask<'a>(word: &[u8], text: &'a [u8]) -> Result<(Wildcard, &'a [u8]), Li
     }
 }
 
-/// What stands for addresses, and the text after it.
-fn addresses(text: &[u8]) -> Result<(Wildcard, &[u8]), LineKind>
+/// The addresses of a group of networks, and the text after its name.
+fn grouped<'a>(groups: &[Group], text: &'a [u8]) -> Result<(Addresses, &'a [u8]), LineKind>
     ensures { MatchResult result
-        (λ read. addresses (words_of text.now)
+        (λ read. grouped groups.now (words_of text.now)
         ≡ Ok (record { value = read.0; words = words_of read.1.now }))
-        (λ kind. addresses (words_of text.now) ≡ Err kind) }
+        (λ kind. grouped groups.now (words_of text.now) ≡ Err kind) }
+{
+    let Some((name, rest)) = next_word(text) else {
+        return Err(LineKind::MissingWord);
+    };
+    let place = place_for(groups, b"network".as_slice(), name)?;
+    Ok((Addresses::Group(place), rest))
+}
+
+/// What stands for addresses, and the text after it.
+fn addresses_of<'a>(groups: &[Group], text: &'a [u8]) -> Result<(Addresses, &'a [u8]), LineKind>
+    ensures { MatchResult result
+        (λ read. addresses_of groups.now (words_of text.now)
+        ≡ Ok (record { value = read.0; words = words_of read.1.now }))
+        (λ kind. addresses_of groups.now (words_of text.now) ≡ Err kind) }
 {
     let Some((word, rest)) = next_word(text) else {
         return Err(LineKind::MissingWord);
@@ -134,19 +158,19 @@ fn addresses(text: &[u8]) -> Result<(Wildcard, &[u8]), LineKind>
         return host(rest);
     }
     if word == b"object-group".as_slice() {
-        return Err(LineKind::Group);
+        return grouped(groups, rest);
     }
     with_mask(word, rest)
 }
 
 /// A side, and the text after it.
-fn side_of(text: &[u8]) -> Result<(Side, &[u8]), LineKind>
+fn side_of<'a>(groups: &[Group], text: &'a [u8]) -> Result<(Side, &'a [u8]), LineKind>
     ensures { MatchResult result
-        (λ read. side_of (words_of text.now)
+        (λ read. side_of groups.now (words_of text.now)
         ≡ Ok (record { value = read.0; words = words_of read.1.now }))
-        (λ kind. side_of (words_of text.now) ≡ Err kind) }
+        (λ kind. side_of groups.now (words_of text.now) ≡ Err kind) }
 {
-    let (addresses, rest) = addresses(text)?;
+    let (addresses, rest) = addresses_of(groups, text)?;
     match port_part(rest) {
         Ok((ports, rest)) => Ok((Side { addresses, ports }, rest)),
         Err(kind) => Err(kind),
@@ -296,25 +320,31 @@ fn checked(entry: Entry) -> Result<Entry, LineKind>
 }
 
 /// Both sides of an entry, and what stands after them.
-fn sides(verdict: Verdict, protocol: Span, text: &[u8]) -> Result<Entry, LineKind>
-    ensures { result ≡ sides verdict protocol (words_of text.now) }
+fn sides(
+    groups: &[Group],
+    verdict: Verdict,
+    protocol: Span,
+    text: &[u8],
+) -> Result<Entry, LineKind>
+    ensures { result ≡ sides groups.now verdict protocol (words_of text.now) }
 {
-    match side_of(text) {
-        Ok((source, rest)) => with_destination(verdict, protocol, source, rest),
+    match side_of(groups, text) {
+        Ok((source, rest)) => with_destination(groups, verdict, protocol, source, rest),
         Err(kind) => Err(kind),
     }
 }
 
 /// The destination of an entry, and what stands after it.
 fn with_destination(
+    groups: &[Group],
     verdict: Verdict,
     protocol: Span,
     source: Side,
     text: &[u8],
 ) -> Result<Entry, LineKind>
-    ensures { result ≡ with_destination verdict protocol source (words_of text.now) }
+    ensures { result ≡ with_destination groups.now verdict protocol source (words_of text.now) }
 {
-    match side_of(text) {
+    match side_of(groups, text) {
         Ok((destination, rest)) => {
             if let Some(kind) = options_fault(protocol, rest) {
                 return Err(kind);
@@ -331,9 +361,9 @@ fn with_destination(
 }
 
 /// An entry after its verdict, or the first fault from left to right.
-pub(crate) fn entry_of(verdict: Verdict, text: &[u8]) -> Result<Entry, LineKind>
-    ensures { result ≡ entry_of verdict (words_of text.now) }
+pub(crate) fn entry_of(groups: &[Group], verdict: Verdict, text: &[u8]) -> Result<Entry, LineKind>
+    ensures { result ≡ entry_of groups.now verdict (words_of text.now) }
 {
     let (protocol, rest) = protocols(text)?;
-    sides(verdict, protocol, rest)
+    sides(groups, verdict, protocol, rest)
 }

@@ -1,5 +1,7 @@
 //! Why a list isn't read.
 
+ghost use Rattle.std.specs.Prelude.{◌≡◌};
+
 use std::alloc::AllocError;
 
 /// Why a list isn't read.
@@ -43,7 +45,8 @@ pub enum LineKind {
     NotExtended,
     /// The line has `access-list`, and begins no list and is no entry of one.
     BadList,
-    /// The line takes out a list or an entry, which a configuration doesn't when it is written.
+    /// The line takes out a list, an entry, a group or a member, which a configuration doesn't when
+    /// it is written.
     TakenOut,
     /// The entry stands outside of a list.
     StrayEntry,
@@ -61,8 +64,24 @@ pub enum LineKind {
     LooseEntry,
     /// The line ends where a word is missing.
     MissingWord,
-    /// A group of objects is named, which isn't read here.
+    /// A group of services is named, which isn't read here.
     Group,
+    /// The line has `object-group`, and not exactly a kind that is known here and a name after it.
+    BadGroup,
+    /// The group was begun before with another kind.
+    KindTwice,
+    /// The group that is named isn't in the file.
+    NoGroup,
+    /// The group that is named is of a kind that doesn't fit at this place.
+    OtherKind,
+    /// The group that is named has no members.
+    EmptyGroup,
+    /// The group that the line names lies within itself, or in more than 100 others.
+    GroupLoop,
+    /// A group of the entry holds more than 65,536 members, or its groups make more pairs.
+    LargeGroup,
+    /// The mask of a group's member is none of a network, or leaves out bits of the address.
+    BadNetworkMask,
     /// The word is no protocol that is known here.
     BadProtocol,
     /// The protocol is 0, which means all protocols to some devices.
@@ -83,6 +102,13 @@ pub enum LineKind {
     IcmpType,
     /// The word isn't known at this place.
     UnknownWord,
+}
+
+/// The fault of a line.
+pub(crate) fn line_fault(line: u32, kind: LineKind) -> CiscoFault
+    ensures { result ≡ CiscoFault.Line (record { line = line; kind = kind }) }
+{
+    CiscoFault::Line(LineFault { line, kind })
 }
 
 /// Why a line isn't read.

@@ -5,6 +5,9 @@
 //!
 //! | module | what it holds |
 //! |---|---|
+//! | `groups` | groups by their names, with their lines |
+//! | `members` | members of groups of networks |
+//! | `held` | what groups hold, with the groups in them |
 //! | `names` | numbers, and the words that name ports and protocols |
 //! | `wildcard` | addresses under a wildcard mask |
 //! | `port_list` | ports after `eq` and `neq` |
@@ -19,16 +22,19 @@
 //! | `fault` | the kinds of faults, and the line of the first one |
 //! | `laws` | the words of an entry that is read are whole parts |
 //!
-//! Source: Cisco IOS Security Command Reference, "access-list (IP extended)", "ip access-list" and
-//! "permit (IP)".
+//! Source: Cisco IOS Security Command Reference, "access-list (IP extended)", "ip access-list",
+//! "permit (IP)" and "object-group network".
 #![tactic(auto)]
 
 mod commands;
 mod entry;
 mod fault;
+mod groups;
 mod heads;
+mod held;
 pub mod laws;
 mod list;
+mod members;
 mod names;
 mod packets;
 mod port_list;

@@ -6,6 +6,7 @@ ghost use Rattle.cisco_reader.specs.Lists.{after_comment, other_stage, unknown_f
 use crate::commands::{act_fault, is_numbered_entry, is_setting, is_unread, is_unread_kind};
 use crate::entry::{Entry, Verdict, entry_of};
 use crate::fault::{LineFault, LineKind, Stop};
+use crate::groups::Group;
 use crate::heads::{
     Head, after_number, head_of, is_extended, is_standard, may_be_extended, rest_of,
 };
@@ -33,7 +34,8 @@ pub(crate) enum Stage {
 
 /// A list so far. Contracts see a record of its parts.
 #[derive(Drop)]
-pub(crate) struct List {
+pub(crate) struct List<'g, 'a> {
+    groups: &'g [Group<'a>],
     stage: Stage,
     begun: bool,
     loose: Loose,
@@ -41,12 +43,13 @@ pub(crate) struct List {
     entries: Vec<Placed>,
 }
 
-impl Model for List {
+impl<'g, 'a> Model for List<'g, 'a> {
     ghost use Rattle.cisco_reader.specs.Lists.{ListSoFar};
 
     ghost Value = { ListSoFar };
 
     ghost view = { λ list. record {
+      groups = list.groups.now;
       stage = list.stage;
       begun = list.begun;
       loose = list.loose;
@@ -55,17 +58,18 @@ impl Model for List {
     } };
 }
 
-impl List {
+impl<'g, 'a> List<'g, 'a> {
     ghost use Rattle.std.specs.Prelude.{◌≡◌, ◌≤◌, length, IfErr, MatchResult, OnOk, Ok, Err};
     ghost use Rattle.text_scan.specs.Parts.{words_of};
     ghost use Rattle.cisco_reader.specs.Stops.{Refuses};
     ghost use Rattle.cisco_reader.specs.Lists as list;
 
-    /// Nothing was read.
-    pub(crate) fn new(alloc: Global) -> List
-        ensures { result ≡ list.no_list }
+    /// Nothing was read of a file that has these groups.
+    pub(crate) fn new(alloc: Global, groups: &'g [Group<'a>]) -> List<'g, 'a>
+        ensures { result ≡ list.no_list groups.now }
     {
         List {
+            groups,
             stage: Stage::Outside,
             begun: false,
             loose: Loose::None,
@@ -130,7 +134,7 @@ impl List {
         ensures err { IfErr result
             (Refuses (list.with_verdict line number self.old verdict (words_of text.now))) }
     {
-        match entry_of(verdict, text) {
+        match entry_of(self.groups, verdict, text) {
             Ok(entry) => self.add_entry(line, number, entry),
             Err(kind) => Err(Stop::Faulty(kind)),
         }
@@ -418,8 +422,8 @@ impl List {
     /// The entries, where the list was begun and has some. The last line has the number.
     pub(crate) fn ended(self, number: u32) -> Result<Vec<Placed>, LineFault>
         ensures { MatchResult result
-            (λ entries. list.ended number self ≡ Ok entries.items)
-            (λ fault. list.ended number self ≡ Err fault) }
+            (λ entries. list.ended number self.entry ≡ Ok entries.items)
+            (λ fault. list.ended number self.entry ≡ Err fault) }
     {
         if !self.begun {
             return Err(LineFault {

@@ -1,18 +1,20 @@
 //! The rules of entries, as boxes of packets.
 
-ghost use Rattle.std.specs.Prelude.{◌≡◌, ◌⊎◌, ◌++◌, map, flat_map, IfOk, OnOk, Ok, Err};
-ghost use Rattle.cisco_reader.specs.Packets.{all_packets, answer_of, from, from_port_rules, from_ports, from_rules};
-ghost use Rattle.cisco_reader.specs.Packets.{kept_ports, left_out, left_ports, list_of, parts_of, rule_of, rules_of};
-ghost use Rattle.cisco_reader.specs.Packets.{spans_of, to, to_port_rules, to_ports, to_rules, verdict_answer};
-ghost use Rattle.cisco_reader.specs.Packets.{wanted};
+ghost use Rattle.std.specs.Prelude.{◌≡◌, ◌*◌, ◌⊎◌, ◌++◌, length, map, nat_lt, IfErr, IfOk, OnOk, Ok, Err};
+ghost use Rattle.cisco_reader.specs.Held.{max_held};
+ghost use Rattle.cisco_reader.specs.Packets.{all_packets, all_rules, answer_of, from, from_ports, from_rules};
+ghost use Rattle.cisco_reader.specs.Packets.{kept_ports, left_out, left_ports, list_of, max_list, parts_of};
+ghost use Rattle.cisco_reader.specs.Packets.{spans_of, to, to_ports, verdict_answer, wanted, with_rules};
+ghost use Rattle.cisco_reader.specs.Stops.{Fails};
 ghost use Rattle.cisco_reader.specs.declared.fault.LineFault.{LineFault};
 
 use crate::entry::{Entry, Verdict};
-use crate::fault::CiscoFault;
+use crate::fault::{CiscoFault, LineKind, line_fault};
+use crate::groups::Group;
+use crate::held::{MAX_HELD, address_spans};
 use crate::ports::PortPart;
-use crate::reading::read_entries;
+use crate::reading::{MAX_LIST, read_entries, read_groups};
 use crate::sequence::Placed;
-use crate::wildcard::spans_under;
 use list_chains::{Chain, ChainRule, Span, SpanBox, Target};
 use std::alloc::{AllocError, Global};
 use std::marker::Model;
@@ -88,16 +90,23 @@ impl Parts {
     ghost use Rattle.std.specs.Prelude.{◌≡◌, ◌++◌, map, IfOk, OnOk};
     ghost use Rattle.cisco_reader.specs.Packets as meant;
 
-    /// The parts of an entry. It takes the memory of them.
-    fn of(alloc: Global, answers: Answers, placed: &Placed) -> Result<Parts, AllocError>
-        ensures { IfOk result (λ parts. parts ≡ meant.parts_of answers placed.now) }
+    /// The parts of an entry, whose addresses are these. It takes the memory of the others.
+    fn of(
+        alloc: Global,
+        answers: Answers,
+        placed: &Placed,
+        sources: Vec<Span>,
+        destinations: Vec<Span>,
+    ) -> Result<Parts, AllocError>
+        ensures { IfOk result (λ parts.
+            parts ≡ meant.parts_of answers placed.now sources.items destinations.items) }
     {
         let entry = &placed.entry;
         Ok(Parts {
             answer: answer_of(answers, placed.line, entry.verdict),
             left: left_out(alloc, entry)?,
-            sources: spans_under(alloc, entry.source.addresses)?,
-            destinations: spans_under(alloc, entry.destination.addresses)?,
+            sources,
+            destinations,
             source_ports: kept_ports(alloc, &entry.source.ports)?,
             destination_ports: kept_ports(alloc, &entry.destination.ports)?,
         })
@@ -336,17 +345,20 @@ fn answer_of(answers: Answers, line: u32, verdict: Verdict) -> u32
     }
 }
 
-/// Puts the rules of an entry after others: one for each box of packets that it catches. It takes
-/// the memory of these rules.
-fn put_rules(
+/// Puts the rules of an entry with these addresses: one for each box of packets that it catches.
+fn put_boxes(
     alloc: Global,
     answers: Answers,
     placed: &Placed,
+    sources: Vec<Span>,
+    destinations: Vec<Span>,
     rules: &mut Vec<ChainRule>,
 ) -> Result<(), AllocError>
-    ensures { OnOk result (rules.new.items ≡ rules.old.items ++ rules_of answers placed.now) }
+    ensures { OnOk result (rules.new.items ≡ rules.old.items
+        ++ from_rules (parts_of answers placed.now sources.items destinations.items)
+        (record all_packets { protocol = placed.now.entry.protocol })) }
 {
-    let parts = Parts::of(alloc, answers, placed)?;
+    let parts = Parts::of(alloc, answers, placed, sources, destinations)?;
     let packets = Packets {
         protocol: placed.entry.protocol,
         ..ALL_PACKETS
@@ -354,19 +366,78 @@ fn put_rules(
     parts.put_from(alloc, packets, rules)
 }
 
+/// Whether sources and destinations make too many pairs.
+fn are_many(sources: &[Span], destinations: &[Span]) -> bool
+    ensures { result ≡ nat_lt max_held (length sources.now * length destinations.now) }
+{
+    sources.len().saturating_mul(destinations.len()) > MAX_HELD
+}
+
+/// Puts the rules of an entry after others, with what its groups hold. It takes the memory of these
+/// rules.
+fn put_rules(
+    alloc: Global,
+    groups: &[Group],
+    answers: Answers,
+    placed: &Placed,
+    rules: &mut Vec<ChainRule>,
+) -> Result<(), CiscoFault>
+    ensures ok { OnOk result
+        (with_rules groups.now answers rules.old.items placed.now ≡ Ok rules.new.items) }
+    ensures err { IfErr result
+        (Fails (with_rules groups.now answers rules.old.items placed.now)) }
+{
+    let entry = &placed.entry;
+    let sources = address_spans(alloc, groups, placed.line, entry.source.addresses)?;
+    let destinations = address_spans(alloc, groups, placed.line, entry.destination.addresses)?;
+    if are_many(&sources, &destinations) {
+        return Err(line_fault(placed.line, LineKind::LargeGroup));
+    }
+    put_boxes(alloc, answers, placed, sources, destinations, rules)?;
+    Ok(())
+}
+
 /// The rules of some entries, in their order.
 fn all_rules(
     alloc: Global,
+    groups: &[Group],
     answers: Answers,
     entries: &[Placed],
-) -> Result<Vec<ChainRule>, AllocError>
-    ensures { IfOk result (λ rules. rules.items ≡ flat_map (rules_of answers) entries.now) }
+) -> Result<Vec<ChainRule>, CiscoFault>
+    ensures ok { IfOk result
+        (λ rules. all_rules groups.now answers entries.now ≡ Ok rules.items) }
+    ensures err { IfErr result (Fails (all_rules groups.now answers entries.now)) }
 {
     let mut rules = Vec::new(alloc);
     for placed in entries {
-        put_rules(alloc, answers, placed, &mut rules)?;
+        put_rules(alloc, groups, answers, placed, &mut rules)?;
     }
     Ok(rules)
+}
+
+/// Whether a configuration has more bytes than it may have.
+fn is_too_long(bytes: &[u8]) -> bool
+    ensures { result ≡ nat_lt max_list (length bytes.now) }
+{
+    bytes.len() > MAX_LIST
+}
+
+/// The rules of the list of a name, or why it isn't read.
+fn list_rules(
+    alloc: Global,
+    bytes: &[u8],
+    name: &[u8],
+    answers: Answers,
+) -> Result<Vec<ChainRule>, CiscoFault>
+    ensures ok { IfOk result (λ rules. list_of answers name.now bytes.now ≡ Ok rules.items) }
+    ensures err { IfErr result (Fails (list_of answers name.now bytes.now)) }
+{
+    if is_too_long(bytes) {
+        return Err(line_fault(0, LineKind::FileTooLong));
+    }
+    let groups = read_groups(alloc, bytes)?;
+    let entries = read_entries(alloc, &groups, bytes, name)?;
+    all_rules(alloc, &groups, answers, &entries)
 }
 
 /// The rules of the extended list of a name in a configuration of IOS, or its first faulty line.
@@ -380,11 +451,14 @@ fn all_rules(
 /// Each entry is read from left to right: `permit` or `deny`, a protocol, the source with its
 /// ports, the destination with its ports, and `log` or `log-input` with at most one word. Whatever
 /// else stands in an entry of the list is a fault. A line that is no entry has to begin a part of a
-/// configuration that is known here, or to belong to one.
+/// configuration that is known here, or to belong to one. Groups of networks (`object-group
+/// network NAME`) may stand anywhere in the file. Members are read where an entry needs them: `any`,
+/// a host, a range, a network with its mask or the length of its prefix, and other groups.
 ///
-/// `Line` comes exactly where the file is too long (line 0), some line is faulty (the first one,
-/// with its first fault), or the list isn't begun or has no entries (the last line), as long as
-/// memory lasts. It takes memory for the entries and the rules.
+/// `Line` comes exactly where the file is too long (line 0), some line is faulty, or the list isn't
+/// begun or has no entries (the last line), as long as memory lasts. Of faulty lines the first one
+/// is told: of heads of groups, else of all lines, else of members and sizes of groups, entry by
+/// entry. It takes memory for the groups' lines, the entries and the rules.
 pub fn read_list(
     alloc: Global,
     bytes: &[u8],
@@ -397,11 +471,8 @@ pub fn read_list(
     ensures refused { (fault : LineFault) → list_of answers name.now bytes.now ≡ Err fault
         → (result ≡ Err (CiscoFault.Line fault)) ⊎ (result ≡ Err CiscoFault.OutOfMemory) }
 {
-    match read_entries(alloc, bytes, name) {
-        Ok(entries) => {
-            let rules = all_rules(alloc, answers, &entries)?;
-            Ok(Chain::new(rules))
-        }
+    match list_rules(alloc, bytes, name, answers) {
+        Ok(rules) => Ok(Chain::new(rules)),
         Err(fault) => Err(fault),
     }
 }

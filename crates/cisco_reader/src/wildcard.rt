@@ -46,7 +46,7 @@ fn ones(bits: u32) -> u64
 }
 
 /// The number of one bit.
-fn power(bit: u32) -> u64
+pub(crate) fn power(bit: u32) -> u64
     requires { bit ≤ 32 }
     ensures is { result ≡ 2 ^ bit }
     ensures some { 0 < result }

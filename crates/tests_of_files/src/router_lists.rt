@@ -43,14 +43,31 @@ const EDGE: &str = "! an edge router's configuration, as show running-config wri
     interface GigabitEthernet0/0\n \
     ip access-group OUTSIDE-IN in\n";
 
-/// The rules of a list of the configuration.
+/// A configuration whose list A names groups, of which two stand after it.
+const GROUPED: &str = "object-group network SERVERS\n \
+    description servers of the branch\n \
+    host 192.0.2.10\n \
+    range 192.0.2.20 192.0.2.27\n \
+    198.51.100.0 255.255.255.240\n\
+    !\n\
+    ip access-list extended A\n \
+    permit tcp object-group OFFICES object-group SERVERS eq 443\n \
+    deny   ip any any log\n\
+    object-group network OFFICES\n \
+    10.1.0.0 /16\n \
+    group-object PARTNERS\n\
+    object-group network PARTNERS\n \
+    203.0.113.64/26\n";
+
+/// The rules of a list of a configuration.
 fn rules_of(
     rt: &impl Abort,
     alloc: Global,
+    text: &str,
     name: &[u8],
     answers: Answers,
 ) -> Result<RuleSet, Fail> {
-    let chain = read_list(alloc, EDGE.as_bytes(), name, answers)
+    let chain = read_list(alloc, text.as_bytes(), name, answers)
         .ok()
         .expect(rt, "a lawful list");
     let chains = vec![in alloc; chain]?;
@@ -90,6 +107,17 @@ const NUMBERED: [Packet; 3] = [
     Packet(6, [11, 1, 2, 3], [8, 8, 8, 8], 9, 22, 0),
 ];
 
+/// Packets at the ends of what groups hold, each with the line that decides it.
+const OF_GROUPS: [Packet; 7] = [
+    Packet(6, [10, 1, 2, 3], SERVER, 9, 443, 8),
+    Packet(6, [10, 2, 0, 0], SERVER, 9, 443, 9),
+    Packet(6, [203, 0, 113, 127], [192, 0, 2, 27], 9, 443, 8),
+    Packet(6, [203, 0, 113, 128], [192, 0, 2, 27], 9, 443, 9),
+    Packet(6, [10, 1, 255, 255], [198, 51, 100, 15], 9, 443, 8),
+    Packet(6, [10, 1, 255, 255], [198, 51, 100, 16], 9, 443, 9),
+    Packet(6, [192, 0, 2, 10], [10, 1, 2, 3], 9, 443, 9),
+];
+
 /// Whether the rules give each packet its answer.
 fn decide(rt: &impl Abort, rules: &RuleSet, packets: &[Packet]) {
     for packet in packets {
@@ -104,16 +132,18 @@ fn decide(rt: &impl Abort, rules: &RuleSet, packets: &[Packet]) {
 
 #[test]
 fn lists_of_a_router_decide_as_their_lines_say(rt: HostRuntime) -> Result<(), Fail> {
-    let named = rules_of(&rt, rt.alloc(), b"OUTSIDE-IN", Answers::Line)?;
+    let named = rules_of(&rt, rt.alloc(), EDGE, b"OUTSIDE-IN", Answers::Line)?;
     decide(&rt, &named, &OUTSIDE);
-    let numbered = rules_of(&rt, rt.alloc(), b"101", Answers::Verdict)?;
+    let numbered = rules_of(&rt, rt.alloc(), EDGE, b"101", Answers::Verdict)?;
     decide(&rt, &numbered, &NUMBERED);
+    let grouped = rules_of(&rt, rt.alloc(), GROUPED, b"A", Answers::Line)?;
+    decide(&rt, &grouped, &OF_GROUPS);
     Ok(())
 }
 
 /// Configurations, and the line for which each is refused when the list A is asked for: 0 if it is
 /// read.
-const LISTS: [(&str, u32); 8] = [
+const LISTS: [(&str, u32); 17] = [
     ("ip access-list extended A\n permit tcp any any eq 80\n", 0),
     (
         "ip access-list extended A\n permit tcp any any established\n",
@@ -134,6 +164,67 @@ const LISTS: [(&str, u32); 8] = [
     ("ip access-list standard A\n permit 10.0.0.1\n", 1),
     ("ip access-list extended B\n permit ip any any\nend\n", 3),
     ("interface Gi0/0\n permit ip any any\n", 2),
+    (
+        "ip access-list extended A\n \
+        permit ip object-group N any\n",
+        2,
+    ),
+    (
+        "object-group network N\n \
+        host 10.0.0.1\n\
+        ip access-list extended A\n \
+        permit ip any object-group N\n",
+        0,
+    ),
+    (
+        "object-group network N\n \
+        host 10.0.0.300\n\
+        ip access-list extended A\n \
+        permit ip any object-group N\n",
+        2,
+    ),
+    (
+        "object-group network N\n \
+        host 10.0.0.300\n\
+        ip access-list extended A\n \
+        permit ip any any\n",
+        0,
+    ),
+    (
+        "object-group network N\n \
+        group-object N\n\
+        ip access-list extended A\n \
+        permit ip any object-group N\n",
+        2,
+    ),
+    (
+        "object-group network N\n \
+        description none\n\
+        ip access-list extended A\n \
+        permit ip any object-group N\n",
+        4,
+    ),
+    (
+        "object-group network N\n \
+        host 10.0.0.1\n \
+        no host 10.0.0.1\n\
+        ip access-list extended A\n \
+        permit ip any any\n",
+        3,
+    ),
+    (
+        "object-group service N\n \
+        tcp\n\
+        ip access-list extended A\n \
+        permit ip object-group N any\n",
+        4,
+    ),
+    (
+        "object-group network\n\
+        ip access-list extended A\n \
+        permit ip any any\n",
+        1,
+    ),
 ];
 
 /// The line for which a configuration is refused, and 0 if its list A is read.

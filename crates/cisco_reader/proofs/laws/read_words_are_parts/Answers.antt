@@ -1,5 +1,9 @@
 use Rattle.cisco_reader.proofs.JoinedWords.{read_words_are_parts}
+use Rattle.cisco_reader.proofs.MemberWords.{read_members_are_parts}
 use Rattle.cisco_reader.proofs.laws.read_words_are_parts.Goals as goal
 
-pub returns : goal.returns
-returns c = read_words_are_parts
+pub returns-clause-entries : goal.returns-clause-entries
+returns-clause-entries c = read_words_are_parts
+
+pub returns-clause-members : goal.returns-clause-members
+returns-clause-members c = read_members_are_parts

@@ -1,0 +1,108 @@
+-- Examples of groups, each checked by evaluation: what groups of networks hold, and the faults of
+-- others.
+use Rattle.std.specs.Prelude.{◌≡◌, ℕ, ◌++◌, List, [], ◌∷◌, codes, Result, Ok, Err, refl}
+use Rattle.std.specs.Fmt.{digits}
+use Rattle.list_chains.specs.declared.span.Span.{Span}
+use Rattle.cisco_reader.specs.declared.entry.Addresses.TheVariants.{Group}
+use Rattle.cisco_reader.specs.declared.fault.LineFault.{LineFault}
+use Rattle.cisco_reader.specs.declared.fault.LineKind.{LineKind}
+use Rattle.cisco_reader.specs.declared.fault.LineKind.TheVariants as kind
+use Rattle.cisco_reader.specs.Groups.{group_kinds, groups_of}
+use Rattle.cisco_reader.specs.Heads.{begins_part, is_end, is_entry, is_ip, is_named, named_words, part_words}
+use Rattle.cisco_reader.specs.Held.{address_spans, opened_times}
+use Rattle.cisco_reader.specs.Lines.{with_lines}
+use Rattle.cisco_reader.specs.Names.{is_among}
+use Rattle.cisco_reader.specs.Read.{◌>>=◌}
+
+-- the numbers from one to another
+infixl 20 ◌to◌
+abbrev ◌to◌ : ℕ → ℕ → Span
+low to high = record { low = low; high = high }
+
+-- what the first group of a file holds, where line 9 names it
+abbrev first_holds : List ℕ → Result (List Span) LineFault
+first_holds text = groups_of text >>= λ groups. address_spans groups 9 (Group 0)
+
+-- a fault of a line
+abbrev faulty : ℕ → LineKind → Result (List Span) LineFault
+faulty line kind = Err (record { line = line; kind = kind })
+
+-- a host, a range, and a network with its mask; descriptions and comments say nothing
+members : first_holds (codes "object-group network A\n description some\n host 10.1.0.7\n!\n"
+    ++ codes " range 10.0.0.3 10.0.0.5\n 10.2.0.0 255.255.0.0\nhostname edge\n any\n")
+    ≡ Ok ((167837703 to 167837703) ∷ (167772163 to 167772165) ∷ (167903232 to 167968767) ∷ [])
+unfolding with_lines digits is_among is_entry is_end is_named named_words begins_part part_words
+    is_ip group_kinds opened_times
+members = refl
+
+-- a network with the length of its prefix, in one word or two
+lengths : first_holds (codes "object-group network A\n 10.2.3.4/16\n 10.2.0.0 /24\n")
+    ≡ Ok ((167903232 to 167968767) ∷ (167903232 to 167903487) ∷ [])
+unfolding with_lines digits is_among is_entry is_end is_named named_words begins_part part_words
+    is_ip group_kinds opened_times
+lengths = refl
+
+-- a group in a group stands for its members, also if it begins later and goes on
+inner : first_holds (codes "object-group network A\n group-object B\n host 10.0.0.1\n"
+    ++ codes "object-group network B\n host 10.0.0.2\nobject-group network A\n host 10.0.0.3\n"
+    ++ codes "object-group network B\n host 10.0.0.4\n")
+    ≡ Ok ((167772162 to 167772162) ∷ (167772164 to 167772164) ∷ (167772161 to 167772161)
+    ∷ (167772163 to 167772163) ∷ [])
+unfolding with_lines digits is_among is_entry is_end is_named named_words begins_part part_words
+    is_ip group_kinds opened_times
+inner = refl
+
+-- ---- faults
+
+loop : first_holds (codes "object-group network A\n group-object B\n"
+    ++ codes "object-group network B\n group-object A\n")
+    ≡ faulty 2 kind.GroupLoop
+unfolding with_lines digits is_among is_entry is_end is_named named_words begins_part part_words
+    is_ip group_kinds opened_times
+loop = refl
+
+unknown : first_holds (codes "object-group network A\n group-object B\n") ≡ faulty 2 kind.NoGroup
+unfolding with_lines digits is_among is_entry is_end is_named named_words begins_part part_words
+    is_ip group_kinds opened_times
+unknown = refl
+
+of_services :
+    first_holds (codes "object-group network A\n group-object B\nobject-group service B\n tcp\n")
+    ≡ faulty 2 kind.OtherKind
+unfolding with_lines digits is_among is_entry is_end is_named named_words begins_part part_words
+    is_ip group_kinds opened_times
+of_services = refl
+
+empty : first_holds (codes "object-group network A\n description none\n") ≡ faulty 9 kind.EmptyGroup
+unfolding with_lines digits is_among is_entry is_end is_named named_words begins_part part_words
+    is_ip group_kinds opened_times
+empty = refl
+
+taken_out : first_holds (codes "object-group network A\n host 10.0.0.1\n no host 10.0.0.1\n")
+    ≡ faulty 3 kind.TakenOut
+unfolding with_lines digits is_among is_entry is_end is_named named_words begins_part part_words
+    is_ip group_kinds opened_times
+taken_out = refl
+
+wildcard : first_holds (codes "object-group network A\n 10.0.0.0 0.0.0.255\n")
+    ≡ faulty 2 kind.BadNetworkMask
+unfolding with_lines digits is_among is_entry is_end is_named named_words begins_part part_words
+    is_ip group_kinds opened_times
+wildcard = refl
+
+bits_left_out : first_holds (codes "object-group network A\n 10.0.0.1 255.255.255.0\n")
+    ≡ faulty 2 kind.BadNetworkMask
+unfolding with_lines digits is_among is_entry is_end is_named named_words begins_part part_words
+    is_ip group_kinds opened_times
+bits_left_out = refl
+
+without_a_name : first_holds (codes "object-group network\n") ≡ faulty 1 kind.BadGroup
+unfolding with_lines digits is_among is_entry is_end is_named named_words begins_part part_words
+    is_ip group_kinds opened_times
+without_a_name = refl
+
+of_two_kinds : first_holds (codes "object-group network A\nobject-group service A\n")
+    ≡ faulty 2 kind.KindTwice
+unfolding with_lines digits is_among is_entry is_end is_named named_words begins_part part_words
+    is_ip group_kinds opened_times
+of_two_kinds = refl

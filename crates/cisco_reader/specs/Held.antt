@@ -1,0 +1,133 @@
+-- What a group holds: the lines of its members, in which a group is replaced by its own lines, over
+-- and over; and what they stand for. A group that is still there after so many times lies within
+-- itself, or in more groups than are read.
+use Rattle.std.specs.Prelude.{ℕ, Bool, false, nat_lt, if◌then◌else◌, codes, List, [], ◌∷◌, ◌++◌, length}
+use Rattle.std.specs.Prelude.{slice_index_or, Option, Some, None, Result, Ok, Err}
+use Rattle.std.proofs.Common.{zero, suc}
+use Rattle.std.specs.List.{position}
+use Rattle.std.specs.Str.{bytes_eq}
+use Rattle.list_chains.specs.declared.span.Span.{Span}
+use Rattle.cisco_reader.specs.declared.entry.Addresses.{Addresses}
+use Rattle.cisco_reader.specs.declared.entry.Addresses.TheVariants as addresses
+use Rattle.cisco_reader.specs.declared.held.TheConstants.{MAX_DEPTH, MAX_HELD}
+use Rattle.cisco_reader.specs.declared.fault.LineFault.{LineFault}
+use Rattle.cisco_reader.specs.declared.fault.LineKind.{LineKind}
+use Rattle.cisco_reader.specs.declared.fault.LineKind.TheVariants.{EmptyGroup, GroupLoop, LargeGroup}
+use Rattle.cisco_reader.specs.declared.fault.LineKind.TheVariants.{MissingWord, UnknownWord}
+use Rattle.cisco_reader.specs.Groups.{GroupLine, ListedGroup, no_group, place_for}
+use Rattle.cisco_reader.specs.Members.{network_of_words}
+use Rattle.cisco_reader.specs.Read.{◌>>=◌, all_after}
+use Rattle.cisco_reader.specs.Wildcard.{spans_under}
+
+-- how many members a group may hold, with those of the groups in it
+abbrev pub max_held : ℕ
+max_held = MAX_HELD
+
+-- in how many others a group may lie
+abbrev pub max_depth : ℕ
+max_depth = MAX_DEPTH
+
+-- a fault of a line
+abbrev pub in_line : {A : Type 0} → ℕ → Result A LineKind → Result A LineFault
+in_line number (Ok value) = Ok value
+in_line number (Err kind) = Err (record { line = number; kind = kind })
+
+-- ---- lines
+
+-- the lines of the group of a place
+abbrev pub lines_at : List ListedGroup → ℕ → List GroupLine
+lines_at groups place = (slice_index_or groups place no_group).lines
+
+-- a group that is named has members
+abbrev pub filled : List GroupLine → Result (List GroupLine) LineKind
+filled [] = Err EmptyGroup
+filled (line ∷ lines) = Ok (line ∷ lines)
+
+-- the words name a group
+abbrev pub names_group : List (List ℕ) → Bool
+names_group [] = false
+names_group (word ∷ words) = bytes_eq word (codes "group-object")
+
+-- the group that is named after the first word
+abbrev pub named_place : List ListedGroup → List ℕ → List (List ℕ) → Result ℕ LineKind
+named_place groups kind [] = Err MissingWord
+named_place groups kind (word ∷ []) = Err MissingWord
+named_place groups kind (word ∷ name ∷ []) = place_for groups kind name
+named_place groups kind (word ∷ name ∷ other ∷ words) = Err UnknownWord
+
+-- the lines of the group that is named, which is of the same kind
+abbrev pub inner_lines : List ListedGroup → List ℕ → List (List ℕ)
+    → Result (List GroupLine) LineKind
+inner_lines groups kind words =
+    named_place groups kind words >>= λ place. filled (lines_at groups place)
+
+-- a line, or those of the group that it names
+abbrev pub opened : List ListedGroup → List ℕ → GroupLine → Result (List GroupLine) LineFault
+opened groups kind line =
+    if names_group line.words then in_line line.number (inner_lines groups kind line.words)
+    else Ok (line ∷ [])
+
+-- some lines, if they aren't too many
+abbrev pub few : ℕ → List GroupLine → Result (List GroupLine) LineFault
+few number lines =
+    if nat_lt max_held (length lines) then Err (record { line = number; kind = LargeGroup })
+    else Ok lines
+
+-- the lines so far with those of a line
+abbrev pub with_opened : List ListedGroup → List ℕ → ℕ → List GroupLine → GroupLine
+    → Result (List GroupLine) LineFault
+with_opened groups kind number so_far line =
+    opened groups kind line >>= λ more. few number (so_far ++ more)
+
+-- lines, each replaced by those of the group that it names
+abbrev pub all_opened : List ListedGroup → List ℕ → ℕ → List GroupLine
+    → Result (List GroupLine) LineFault
+all_opened groups kind number lines = all_after (with_opened groups kind number) [] lines
+
+-- the place of the first line that names a group
+abbrev pub first_naming : List GroupLine → Option ℕ
+first_naming lines = position (λ (line : GroupLine). names_group line.words) lines
+
+-- what is at no place
+abbrev pub no_line : GroupLine
+no_line = record { number = 0; words = [] }
+
+-- the number of the line of a place
+abbrev pub number_at : List GroupLine → ℕ → ℕ
+number_at lines place = (slice_index_or lines place no_line).number
+
+-- lines, unless one of them names a group: then what follows
+abbrev pub unless_naming : List GroupLine → Option ℕ
+    → (ℕ → Result (List GroupLine) LineFault) → Result (List GroupLine) LineFault
+unless_naming lines None following = Ok lines
+unless_naming lines (Some place) following = following place
+
+-- lines in which groups were replaced so many times at most
+unfoldable pub opened_times : ℕ → List ListedGroup → List ℕ → ℕ → List GroupLine
+    → Result (List GroupLine) LineFault
+opened_times zero groups kind number lines = unless_naming lines (first_naming lines)
+    (λ place. Err (record { line = number_at lines place; kind = GroupLoop }))
+opened_times (suc times) groups kind number lines = unless_naming lines (first_naming lines)
+    (λ place. all_opened groups kind number lines >>= opened_times times groups kind number)
+
+-- the lines of all members that a group holds, which a line names
+abbrev pub held : List ListedGroup → List ℕ → ℕ → ℕ → Result (List GroupLine) LineFault
+held groups kind number place =
+    in_line number (filled (lines_at groups place)) >>= opened_times max_depth groups kind number
+
+-- ---- addresses
+
+-- the addresses so far, and those of a member
+abbrev pub with_network : List Span → GroupLine → Result (List Span) LineFault
+with_network so_far line =
+    in_line line.number (network_of_words line.words) >>= λ span. Ok (so_far ++ span ∷ [])
+
+-- the addresses of members
+abbrev pub networks : List GroupLine → Result (List Span) LineFault
+networks lines = all_after with_network [] lines
+
+-- the addresses of an entry's side, which stands in a line
+abbrev pub address_spans : List ListedGroup → ℕ → Addresses → Result (List Span) LineFault
+address_spans groups number (addresses.Under it) = Ok (spans_under it)
+address_spans groups number (addresses.Group place) =
+    held groups (codes "network") number place >>= networks

@@ -1,0 +1,97 @@
+-- Members of groups of networks (Cisco IOS Security Command Reference, "object-group network"):
+-- `any`, a host, a range, or a network with the length of its prefix or its mask. Set bits of that
+-- mask stand at the left and count, other than those of a wildcard mask.
+use Rattle.std.specs.Prelude.{ℕ, ◌+◌, ◌-◌, ◌*◌, ◌/◌, ◌^◌, ◌==◌, Bool, not, ◌&&◌, nat_le, if◌then◌else◌, codes, bit_and}
+use Rattle.std.specs.Prelude.{List, [], ◌∷◌, Option, Some, None, Result, Ok, Err}
+use Rattle.std.specs.Str.{bytes_eq}
+use Rattle.text_scan.specs.Parts.{slash, cut_at}
+use Rattle.list_chains.specs.declared.span.Span.{Span}
+use Rattle.cisco_reader.specs.declared.fault.LineKind.{LineKind}
+use Rattle.cisco_reader.specs.declared.fault.LineKind.TheVariants.{BadAddress, BadNetworkMask, MissingWord, UnknownWord}
+use Rattle.cisco_reader.specs.Entry.{all_ones, known}
+use Rattle.cisco_reader.specs.Names.{number_of}
+use Rattle.cisco_reader.specs.Read.{◌>>=◌}
+use Rattle.cisco_reader.specs.Wildcard.{ip4_plain}
+
+-- the addresses that agree with one in all but their last bits
+abbrev pub prefix_span : ℕ → ℕ → Span
+prefix_span address free = record {
+  low = address / 2 ^ free * 2 ^ free;
+  high = address / 2 ^ free * 2 ^ free + (2 ^ free - 1);
+}
+
+-- nothing may follow
+abbrev pub alone : {A : Type 0} → List (List ℕ) → A → Result A LineKind
+alone [] it = Ok it
+alone (word ∷ words) it = Err UnknownWord
+
+-- one address
+abbrev pub one_span : ℕ → Span
+one_span address = record { low = address; high = address }
+
+-- the addresses from one to another
+abbrev pub span_to : ℕ → ℕ → Result Span LineKind
+span_to low high =
+    if nat_le low high then Ok (record { low = low; high = high }) else Err BadAddress
+
+-- both addresses of a range
+abbrev pub range_of : List (List ℕ) → Result Span LineKind
+range_of [] = Err MissingWord
+range_of (low ∷ []) = Err MissingWord
+range_of (low ∷ high ∷ words) =
+    known BadAddress (ip4_plain low) (λ first.
+    known BadAddress (ip4_plain high) (λ last. span_to first last >>= alone words))
+
+-- the bits that a mask of a network leaves: those that it hasn't stand at the right, and aren't all
+abbrev pub is_network_mask : ℕ → Bool
+is_network_mask mask = bit_and (all_ones - mask) (all_ones - mask + 1) == 0 && not (mask == 0)
+
+-- the addresses of a network, in which the bits after the mask are 0
+abbrev pub masked_span : ℕ → ℕ → Result Span LineKind
+masked_span address mask =
+    if is_network_mask mask && bit_and address (all_ones - mask) == 0
+    then Ok (record { low = address; high = address + (all_ones - mask) })
+    else Err BadNetworkMask
+
+-- the length of a prefix after its slash
+abbrev pub prefixed : ℕ → List ℕ → Result Span LineKind
+prefixed address text = known BadNetworkMask (number_of 32 text) (λ bits.
+    Ok (prefix_span address (32 - bits)))
+
+-- what may stand after an address: the length of its prefix after a slash, or its mask
+abbrev pub length_or_mask : ℕ → List ℕ → Result Span LineKind
+length_or_mask address [] = Err BadNetworkMask
+length_or_mask address (c ∷ cs) =
+    if c == slash then prefixed address cs
+    else known BadNetworkMask (ip4_plain (c ∷ cs)) (masked_span address)
+
+-- an address and what stands after it, or nothing
+abbrev pub network_of : ℕ → List (List ℕ) → Result Span LineKind
+network_of address [] = Ok (one_span address)
+network_of address (word ∷ words) = length_or_mask address word >>= alone words
+
+-- an address with the length of its prefix in one word, or one that other words may follow
+abbrev pub plain_member : List ℕ → List (List ℕ) → Option (List ℕ × List ℕ) → Result Span LineKind
+plain_member word words None =
+    known BadAddress (ip4_plain word) (λ address. network_of address words)
+plain_member word words (Some cut) =
+    known BadAddress (ip4_plain cut.0) (λ address. prefixed address cut.1) >>= alone words
+
+-- one host
+abbrev pub host_member : List (List ℕ) → Result Span LineKind
+host_member [] = Err MissingWord
+host_member (word ∷ words) =
+    known BadAddress (ip4_plain word) (λ address. alone words (one_span address))
+
+-- the addresses of a member of a group of networks
+abbrev pub network_member : List ℕ → List (List ℕ) → Result Span LineKind
+network_member word words =
+    if bytes_eq word (codes "any") then alone words (record { low = 0; high = all_ones })
+    else (if bytes_eq word (codes "host") then host_member words
+    else (if bytes_eq word (codes "range") then range_of words
+    else plain_member word words (cut_at slash word)))
+
+-- the words after the first one
+abbrev pub network_of_words : List (List ℕ) → Result Span LineKind
+network_of_words [] = Err MissingWord
+network_of_words (word ∷ words) = network_member word words
