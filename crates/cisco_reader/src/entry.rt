@@ -320,12 +320,7 @@ fn checked(entry: Entry) -> Result<Entry, LineKind>
 }
 
 /// Both sides of an entry, and what stands after them.
-fn sides(
-    groups: &[Group],
-    verdict: Verdict,
-    protocol: Span,
-    text: &[u8],
-) -> Result<Entry, LineKind>
+fn sides(groups: &[Group], verdict: Verdict, protocol: Span, text: &[u8]) -> Result<Entry, LineKind>
     ensures { result ≡ sides groups.now verdict protocol (words_of text.now) }
 {
     match side_of(groups, text) {
