@@ -1,0 +1,106 @@
+-- Loops over values of JSON: what the next one makes, and what is made where none is left.
+use Rattle.std.proofs.Common.{◌≡◌, ℕ, ◌+◌, List, [], ◌∷◌, ◌++◌, Some, None, Result, Ok, refl, ap, ◌∙◌}
+use Rattle.json.specs.Json.{Json}
+use Rattle.list_chains.specs.declared.span.Span.{Span}
+use Rattle.nft_reader.specs.declared.chain.Answers.{Answers}
+use Rattle.nft_reader.specs.declared.fault.RuleKind.{RuleKind}
+use Rattle.nft_reader.specs.declared.fault.RuleStop.{RuleStop}
+use Rattle.nft_reader.specs.declared.fault.RuleStop.TheVariants as rule
+use Rattle.nft_reader.specs.declared.fault.ObjectKind.{ObjectKind}
+use Rattle.nft_reader.specs.declared.fault.Stop.{Stop}
+use Rattle.nft_reader.specs.declared.fault.Stop.TheVariants as stopped
+use Rattle.nft_reader.specs.declared.packets.Field.{Field}
+use Rattle.nft_reader.specs.Chains.{ListedChain, Names}
+use Rattle.nft_reader.specs.Readings.{◌>>=◌, ReadRule, with_statement, with_statements}
+use Rattle.nft_reader.specs.Ruleset.{object_then, with_object, with_objects}
+use Rattle.nft_reader.specs.Stops.{IsToldOf, Refuses, RefusesRule, fault_of}
+use Rattle.nft_reader.specs.Values.{span_of, span_then, spans_after}
+
+-- ---- elements
+
+-- an element that has no span
+pub span_none : (which : Field) (spans : List Span) (value : Json) (values : List Json) →
+    span_of which value ≡ None → spans_after which spans (value ∷ values) ≡ None
+unfolding spans_after
+span_none which spans value values none =
+    ap (λ it. span_then it (λ span. spans_after which (spans ++ span ∷ []) values)) none
+
+-- one that has a span
+pub span_more : (which : Field) (spans : List Span) (value : Json) (values : List Json) (span : Span) →
+    span_of which value ≡ Some span →
+    spans_after which spans (value ∷ values) ≡ spans_after which (spans ++ span ∷ []) values
+unfolding spans_after
+span_more which spans value values span some =
+    ap (λ it. span_then it (λ found. spans_after which (spans ++ found ∷ []) values)) some
+
+-- none is left
+pub span_end : (which : Field) (spans : List Span) → spans_after which spans [] ≡ Some spans
+unfolding spans_after
+span_end which spans = refl
+
+-- ---- statements
+
+module _ (chains : List ListedChain) (owner : Names) (reading : ReadRule) where
+  -- a statement, and then those after it
+  statement_first : (statement : Json) (statements : List Json) →
+      with_statements chains owner reading (statement ∷ statements)
+      ≡ (with_statement chains owner reading statement >>= λ more. with_statements chains owner more statements)
+  unfolding with_statements
+  statement_first statement statements = refl
+
+  -- it was read
+  pub statement_more : (statement : Json) (statements : List Json) (more : ReadRule) →
+      with_statement chains owner reading statement ≡ Ok more →
+      with_statements chains owner reading (statement ∷ statements) ≡ with_statements chains owner more statements
+  statement_more statement statements more read =
+      statement_first statement statements
+      ∙ ap (λ (it : Result ReadRule RuleKind). it >>= λ next. with_statements chains owner next statements) read
+
+  -- or it is why the rule isn't read
+  pub statement_refused : (statement : Json) (statements : List Json) (stop : RuleStop) →
+      RefusesRule (with_statement chains owner reading statement) stop →
+      RefusesRule (with_statements chains owner reading (statement ∷ statements)) stop
+  statement_refused statement statements (rule.Unsaid kind) said =
+      statement_first statement statements
+      ∙ ap (λ (it : Result ReadRule RuleKind). it >>= λ next. with_statements chains owner next statements) said
+  statement_refused statement statements rule.OutOfMemory said = said
+
+  -- none is left
+  pub statement_end : with_statements chains owner reading [] ≡ Ok reading
+  unfolding with_statements
+  statement_end = refl
+
+-- ---- objects
+
+module _ (asked : Answers) (number : ℕ) (chains : List ListedChain) where
+  -- an object, and then those after it
+  object_first : (value : Json) (values : List Json) →
+      with_objects asked number chains (value ∷ values)
+      ≡ object_then (number + 1) (with_object asked chains value)
+      (λ more. with_objects asked (number + 1) more values)
+  unfolding with_objects
+  object_first value values = refl
+
+  -- it was read
+  pub object_more : (value : Json) (values : List Json) (more : List ListedChain) →
+      with_object asked chains value ≡ Ok more →
+      with_objects asked number chains (value ∷ values) ≡ with_objects asked (number + 1) more values
+  object_more value values more read =
+      object_first value values
+      ∙ ap (λ (it : Result (List ListedChain) ObjectKind).
+      object_then (number + 1) it (λ next. with_objects asked (number + 1) next values)) read
+
+  -- or its fault is that of the ruleset
+  pub object_told : (value : Json) (values : List Json) (stop : Stop) →
+      Refuses (with_object asked chains value) stop →
+      IsToldOf (with_objects asked number chains (value ∷ values)) (fault_of (number + 1) stop)
+  object_told value values (stopped.Faulty kind) said =
+      object_first value values
+      ∙ ap (λ (it : Result (List ListedChain) ObjectKind).
+      object_then (number + 1) it (λ next. with_objects asked (number + 1) next values)) said
+  object_told value values stopped.OutOfMemory said = said
+
+  -- none is left
+  pub object_end : with_objects asked number chains [] ≡ Ok chains
+  unfolding with_objects
+  object_end = refl

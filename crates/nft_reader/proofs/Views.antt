@@ -1,0 +1,33 @@
+-- Values of JSON, level by level.
+use Rattle.std.proofs.Common.{◌≡◌, ◌≢◌, ℕ, suc, List, [], ◌∷◌, length, map, Some, None, get_or, arith, refl, ap}
+use Rattle.std.specs.Borrow.{Bor}
+use Rattle.json.specs.Value.{value_view, items_view, members_view}
+use Rattle.json.specs.declared.value.Value.{Value}
+use Rattle.nft_reader.specs.Shapes.{list_of, members_count, only_member}
+
+-- the items of an array are its values
+pub list_of_view : {A : Type 0} (values : List (Value A)) → list_of (items_view values) ≡ map value_view values
+list_of_view [] = refl
+list_of_view (value ∷ values) = ap (λ more. value_view value ∷ more) (list_of_view values)
+
+-- an object has so many members
+pub count_of_view : {A : Type 0} (members : List (Bor (List ℕ) × Value A)) →
+    members_count (members_view members) ≡ length members
+count_of_view [] = refl
+count_of_view (member ∷ members) = ap suc (count_of_view members)
+
+-- of none or several, none is the only one
+pub none_of_several : {A : Type 0} (members : List (Bor (List ℕ) × Value A)) → length members ≢ 1 →
+    only_member (members_view members) ≡ None
+none_of_several [] several = refl
+none_of_several (member ∷ []) several = absurd (several refl)
+none_of_several (member ∷ other ∷ members) several = refl
+
+-- the only one is the first
+pub the_only : {A : Type 0} (members : List (Bor (List ℕ) × Value A)) (other : Bor (List ℕ) × Value A) →
+    length members ≡ 1 →
+    only_member (members_view members)
+    ≡ Some ((get_or members 0 other).0.now, value_view (get_or members 0 other).1)
+the_only [] other alone = absurd (omega (arith, alone))
+the_only (member ∷ []) other alone = refl
+the_only (member ∷ next ∷ members) other alone = absurd (omega (arith, alone))

@@ -1,0 +1,184 @@
+-- Examples of rulesets, each checked by evaluation: rules as nft -j prints them, what they say, and
+-- the faults of others.
+use Rattle.std.specs.Prelude.{◌≡◌, ℕ, ◌++◌, List, [], ◌∷◌, codes, Result, Ok, Err, Some, None, refl}
+use Rattle.std.specs.Fmt.{digits}
+use Rattle.json.proofs.OnLiterals.{json_on_literals}
+use Rattle.list_chains.specs.declared.chain.Target.{Target}
+use Rattle.list_chains.specs.declared.chain.Target.TheVariants.{Decide, Return, Jump}
+use Rattle.list_chains.specs.declared.span.Span.{Span}
+use Rattle.list_chains.specs.Chains.{ListRule}
+use Rattle.nft_reader.specs.declared.chain.Answers.TheVariants as answers
+use Rattle.nft_reader.specs.declared.fault.ObjectFault.{ObjectFault}
+use Rattle.nft_reader.specs.declared.fault.ObjectKind.TheVariants as object
+use Rattle.nft_reader.specs.declared.fault.RuleFault.{RuleFault}
+use Rattle.nft_reader.specs.declared.fault.RuleKind.TheVariants as kind
+use Rattle.nft_reader.specs.Chains.{ListedChain, Names}
+use Rattle.nft_reader.specs.Readings.{with_statements}
+use Rattle.nft_reader.specs.Ruleset.{chains_of, nowhere, with_objects}
+use Rattle.nft_reader.specs.Values.{spans_after}
+
+-- the numbers from one to another
+infixl 20 ◌to◌
+abbrev ◌to◌ : ℕ → ℕ → Span
+low to high = record { low = low; high = high }
+
+-- all protocols, all addresses, all ports, and the protocol TCP
+abbrev all : Span
+all = 0 to 255
+
+abbrev any : Span
+any = 0 to 4294967295
+
+abbrev ports : Span
+ports = 0 to 65535
+
+abbrev tcp : Span
+tcp = 6 to 6
+
+-- the box of all packets
+abbrev everything : List Span
+everything = all ∷ any ∷ any ∷ ports ∷ ports ∷ []
+
+-- a rule that leaves nothing out
+abbrev rule : ℕ → Target → List Span → ListRule (List Span)
+rule userdata target box =
+    record { userdata = userdata; inside = box; but = []; target = target }
+
+-- the first objects of a ruleset: a table with the chain web, and the chain in, which drops
+abbrev declarations : List ℕ
+declarations =
+    codes "{\"nftables\": [{\"metainfo\": {\"version\": \"1.0.6\", \"json_schema_version\": "
+    ++ codes "1}}, {\"table\": {\"family\": \"inet\", \"name\": \"f\", \"handle\": 1}}, {\"chain\": "
+    ++ codes "{\"family\": \"inet\", \"table\": \"f\", \"name\": \"web\", \"handle\": 1}}, "
+    ++ codes "{\"chain\": {\"family\": \"inet\", \"table\": \"f\", \"name\": \"in\", \"handle\": 2, "
+    ++ codes "\"type\": \"filter\", \"hook\": \"input\", \"prio\": 0, \"policy\": \"drop\"}}"
+
+-- a rule of the chain in, of these statements
+abbrev rule_of : List ℕ → List ℕ
+rule_of statements =
+    codes ", {\"rule\": {\"family\": \"inet\", \"table\": \"f\", \"chain\": \"in\", \"handle\": 7, "
+    ++ codes "\"expr\": ["
+    ++ statements ++ codes "]}}]}"
+
+-- a rule that no rule file says
+abbrev unsaid : ListRule (List Span)
+unsaid = rule 7 nowhere everything
+
+-- a rule that leaves one box out
+abbrev all_but : List Span → ListRule (List Span)
+all_but box = record (rule 7 Decide everything) { but = box ∷ [] }
+
+-- the name of a chain of the table
+abbrev named : List ℕ → Names
+named name = record { family = codes "inet"; table = codes "f"; name = name }
+
+-- the chains, of which the second has some rules
+abbrev with_rules : List (ListRule (List Span)) → List RuleFault →
+    Result (List ListedChain) ObjectFault
+with_rules rules faults =
+    Ok (record { owner = named (codes "web"); policy = None; rules = []; faults = [] }
+    ∷ record { owner = named (codes "in"); policy = Some 2; rules = rules; faults = faults } ∷ [])
+
+-- what a rule of the chain in says
+abbrev said : List ℕ → Result (List ListedChain) ObjectFault
+said statements = chains_of answers.Handle (declarations ++ rule_of statements)
+
+-- ip saddr 10.0.0.1 accept
+an_address : said
+    (codes "{\"match\": {\"op\": \"==\", \"left\": {\"payload\": {\"protocol\": \"ip\", \"field\": "
+    ++ codes "\"saddr\"}}, \"right\": \"10.0.0.1\"}}, {\"accept\": null}")
+    ≡ with_rules (rule 7 Decide (all ∷ (167772161 to 167772161) ∷ any ∷ ports ∷ ports ∷ []) ∷ []) []
+unfolding json_on_literals with_statements with_objects spans_after digits
+an_address = refl
+
+-- ip daddr != 192.168.0.0/16 drop
+a_prefix_of_other_addresses : said
+    (codes "{\"match\": {\"op\": \"!=\", \"left\": {\"payload\": {\"protocol\": \"ip\", \"field\": "
+    ++ codes "\"daddr\"}}, \"right\": {\"prefix\": {\"addr\": \"192.168.0.0\", \"len\": 16}}}}, "
+    ++ codes "{\"drop\": null}")
+    ≡ with_rules (all_but (all ∷ any ∷ (3232235520 to 3232301055) ∷ ports ∷ ports ∷ []) ∷ []) []
+unfolding json_on_literals with_statements with_objects spans_after digits
+a_prefix_of_other_addresses = refl
+
+-- tcp dport { 22, 1000-2000 } counter jump web
+ports_of_tcp : said
+    (codes "{\"match\": {\"op\": \"==\", \"left\": {\"payload\": {\"protocol\": \"tcp\", \"field\": "
+    ++ codes "\"dport\"}}, \"right\": {\"set\": [22, {\"range\": [1000, 2000]}]}}}, "
+    ++ codes "{\"counter\": {\"packets\": 0, \"bytes\": 0}}, {\"jump\": {\"target\": \"web\"}}")
+    ≡ with_rules (rule 7 (Jump 0) (tcp ∷ any ∷ any ∷ ports ∷ (22 to 22) ∷ [])
+    ∷ rule 7 (Jump 0) (tcp ∷ any ∷ any ∷ ports ∷ (1000 to 2000) ∷ []) ∷ []) []
+unfolding json_on_literals with_statements with_objects spans_after digits
+ports_of_tcp = refl
+
+-- meta l4proto { icmp, 99 } return
+protocols : said
+    (codes "{\"match\": {\"op\": \"==\", \"left\": {\"meta\": {\"key\": \"l4proto\"}}, \"right\": "
+    ++ codes "{\"set\": [\"icmp\", 99]}}}, {\"return\": null}")
+    ≡ with_rules (rule 7 Return ((1 to 1) ∷ any ∷ any ∷ ports ∷ ports ∷ [])
+    ∷ rule 7 Return ((99 to 99) ∷ any ∷ any ∷ ports ∷ ports ∷ []) ∷ []) []
+unfolding json_on_literals with_statements with_objects spans_after digits
+protocols = refl
+
+-- ip6 saddr fe80::/10 ct state new accept: no IPv4 packet is caught
+packets_of_ip6 : said
+    (codes "{\"match\": {\"op\": \"==\", \"left\": {\"payload\": {\"protocol\": \"ip6\", \"field\": "
+    ++ codes "\"saddr\"}}, \"right\": {\"prefix\": {\"addr\": \"fe80::\", \"len\": 10}}}}, "
+    ++ codes "{\"accept\": null}")
+    ≡ with_rules [] []
+unfolding json_on_literals with_statements with_objects spans_after digits
+packets_of_ip6 = refl
+
+-- reject with tcp reset, which in a table of the family ip shows no comparison with TCP
+a_reset : said
+    (codes "{\"reject\": {\"type\": \"tcp reset\"}}")
+    ≡ with_rules (rule 7 Decide (tcp ∷ any ∷ any ∷ ports ∷ ports ∷ []) ∷ []) []
+unfolding json_on_literals with_statements with_objects spans_after digits
+a_reset = refl
+
+-- reject with icmpv6 type port-unreachable
+a_message_of_ip6 : said
+    (codes "{\"reject\": {\"type\": \"icmpv6\", \"expr\": \"port-unreachable\"}}")
+    ≡ with_rules [] []
+unfolding json_on_literals with_statements with_objects spans_after digits
+a_message_of_ip6 = refl
+
+-- tcp dport 25 log: the next rule decides
+only_a_log : said
+    (codes "{\"match\": {\"op\": \"==\", \"left\": {\"payload\": {\"protocol\": \"tcp\", \"field\": "
+    ++ codes "\"dport\"}}, \"right\": 25}}, {\"log\": null}")
+    ≡ with_rules [] []
+unfolding json_on_literals with_statements with_objects spans_after digits
+only_a_log = refl
+
+-- ct state new accept: it leads to no chain, and its cause is told
+a_state : said
+    (codes "{\"match\": {\"op\": \"in\", \"left\": {\"ct\": {\"key\": \"state\"}}, \"right\": "
+    ++ codes "\"new\"}}, {\"accept\": null}")
+    ≡ with_rules (unsaid ∷ []) (record { handle = 7; kind = kind.CantSay } ∷ [])
+unfolding json_on_literals with_statements with_objects spans_after digits
+a_state = refl
+
+-- queue to 0
+a_queue : said
+    (codes "{\"queue\": {\"num\": 0}}")
+    ≡ with_rules (unsaid ∷ []) (record { handle = 7; kind = kind.UnknownStatement } ∷ [])
+unfolding json_on_literals with_statements with_objects spans_after digits
+a_queue = refl
+
+-- ip saddr @blocked drop
+a_set_of_the_ruleset : said
+    (codes "{\"match\": {\"op\": \"==\", \"left\": {\"payload\": {\"protocol\": \"ip\", \"field\": "
+    ++ codes "\"saddr\"}}, \"right\": \"@blocked\"}}, {\"drop\": null}")
+    ≡ with_rules (unsaid ∷ []) (record { handle = 7; kind = kind.CantSay } ∷ [])
+unfolding json_on_literals with_statements with_objects spans_after digits
+a_set_of_the_ruleset = refl
+
+-- an object that isn't known is refused, by its number
+a_command : chains_of answers.Handle (codes "{\"nftables\": [{\"metainfo\": {}}, {\"add\": {}}]}")
+    ≡ Err (record { object = 2; kind = object.UnknownObject })
+unfolding json_on_literals with_objects
+a_command = refl
+
+no_json : chains_of answers.Handle (codes "table inet f {") ≡ Err (record { object = 0; kind = object.NotJson })
+unfolding json_on_literals
+no_json = refl

@@ -1,0 +1,64 @@
+-- Looking into a value of JSON (RFC 8259): the members of an object, one by one or how many, and the
+-- items of an array. An object of which each member is asked for by its name, and that has no more
+-- members than these, has nothing that is passed over.
+use Rattle.std.specs.Prelude.{ℕ, suc, ◌&&◌, nat_le, if◌then◌else◌, List, [], ◌∷◌}
+use Rattle.std.specs.Prelude.{Option, Some, None, option_and_then}
+use Rattle.std.specs.Option.{option_map}
+use Rattle.text_scan.specs.Digits.{are_digits, place_value}
+use Rattle.json.specs.Json.{Json, Items, no_items, item, Members, no_members, member}
+use Rattle.json.specs.Find.{get, as_array, as_number, as_object, as_str}
+
+-- how many members there are
+abbrev pub members_count : Members → ℕ
+members_count no_members = 0
+members_count (member key value more) = suc (members_count more)
+
+-- how many an object has
+abbrev pub count_of : Option Members → ℕ
+count_of None = 0
+count_of (Some members) = members_count members
+
+-- how many members a value has; one that is no object has none
+abbrev pub len_of : Json → ℕ
+len_of value = count_of (as_object value)
+
+-- the only one of some members
+abbrev pub only_member : Members → Option (List ℕ × Json)
+only_member no_members = None
+only_member (member key value no_members) = Some (key, value)
+only_member (member key value (member other next more)) = None
+
+-- the name and the value of the only member of an object
+abbrev pub only : Json → Option (List ℕ × Json)
+only value = option_and_then only_member (as_object value)
+
+-- items as a list
+abbrev pub list_of : Items → List Json
+list_of no_items = []
+list_of (item value more) = value ∷ list_of more
+
+-- the items of an array
+abbrev pub items_of : Json → Option (List Json)
+items_of value = option_map list_of (as_array value)
+
+-- the items of a member that is an array
+abbrev pub items_in : List ℕ → Json → Option (List Json)
+items_in key value = option_and_then items_of (get key value)
+
+-- the text of a member that is a string
+abbrev pub text_in : List ℕ → Json → Option (List ℕ)
+text_in key value = option_and_then as_str (get key value)
+
+-- the number that digits spell, at most so great
+abbrev pub decimal_of : ℕ → List ℕ → Option ℕ
+decimal_of greatest text =
+    if are_digits 10 text && nat_le (place_value 10 text) greatest
+    then Some (place_value 10 text) else None
+
+-- a value that is a number without sign, point and exponent, at most so great
+abbrev pub number_of : ℕ → Json → Option ℕ
+number_of greatest value = option_and_then (decimal_of greatest) (as_number value)
+
+-- the number of such a member
+abbrev pub number_in : ℕ → List ℕ → Json → Option ℕ
+number_in greatest key value = option_and_then (number_of greatest) (get key value)

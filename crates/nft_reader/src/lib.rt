@@ -1,0 +1,35 @@
+//! the JSON of `nft -j list ruleset` → its chains for IPv4 packets, or its first faulty object
+//!
+//! It reads tables, chains and rules of the families ip and inet. A rule is read statement by
+//! statement. One that no rule file says is kept as a rule that leads to no chain, so that a chain
+//! isn't turned into rules if its packets may come to it.
+//!
+//! | module | what it holds |
+//! |---|---|
+//! | `shapes` | the members of objects and the items of arrays |
+//! | `packets`, `caught` | what a rule catches, as boxes of packets |
+//! | `values` | the right side of a comparison: values, prefixes, ranges and sets |
+//! | `compared` | its left side: fields of headers, and what is known beside them |
+//! | `reading` | a rule, statement by statement |
+//! | `chain` | a chain: its name, its policy and its rules |
+//! | `parts` | what the objects of chains and rules say |
+//! | `ruleset` | a ruleset, object by object, and its chains |
+//! | `fault` | why objects aren't read, and rules aren't said |
+//!
+//! Source: the manual pages nft(8) and libnftables-json(5).
+#![tactic(auto)]
+
+mod caught;
+mod chain;
+mod compared;
+mod fault;
+mod packets;
+mod parts;
+mod reading;
+mod ruleset;
+mod shapes;
+mod values;
+
+pub use chain::{Answers, NftChain, chains_alone, start_of};
+pub use fault::{NftFault, ObjectFault, ObjectKind, RuleFault, RuleKind, StartFault};
+pub use ruleset::{MAX_RULESET, read_ruleset};

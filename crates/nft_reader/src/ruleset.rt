@@ -1,0 +1,338 @@
+//! A ruleset, object by object: its chains for IPv4 packets.
+
+ghost use Rattle.std.specs.Prelude.{◌≡◌, ◌<◌, [], length, map, nat_lt, true, false, IfErr, IfOk};
+ghost use Rattle.std.specs.Prelude.{OnOk, MatchResult, MatchOption, Some, None, Ok, Err};
+ghost use Rattle.std.specs.Str.{IsUtf8};
+ghost use Rattle.json.specs.Json.{document};
+ghost use Rattle.json.specs.Value.{value_view};
+ghost use Rattle.nft_reader.specs.Chains.{names_of};
+ghost use Rattle.nft_reader.specs.Ruleset as listed;
+ghost use Rattle.nft_reader.specs.Stops.{IsToldOf, Refuses, fault_of};
+
+use crate::chain::{Answers, NftChain, place_of};
+use crate::fault::{NftFault, ObjectFault, ObjectKind, RuleStop, Stop};
+use crate::parts::{ChainParts, RuleParts, chain_parts, rule_parts};
+use crate::reading::read_statements;
+use crate::shapes::{items_of, only, text_in};
+use json::{Error, Scratch, Value};
+use std::alloc::{AllocError, Global};
+
+/// How many bytes a ruleset may have.
+pub const MAX_RULESET: usize = 16_777_216;
+
+/// Puts a rule after the others of its chain, which has the place.
+fn put_rule(
+    alloc: Global,
+    answers: Answers,
+    chains: &mut Vec<NftChain>,
+    parts: RuleParts<'_, '_>,
+    place: usize,
+) -> Result<(), AllocError>
+    requires { place < length chains.old.items }
+    ensures { OnOk result (chains.new.items ≡ listed.with_rule_at answers (record {
+      owner = names_of parts.entry.owner;
+      handle = parts.entry.handle;
+      statements = map value_view parts.entry.statements.now;
+    }) chains.old.items place) }
+{
+    match read_statements(alloc, chains, parts.owner, parts.statements) {
+        Ok(reading) => chains[place].add_rule(alloc, answers, parts.handle, &reading),
+        Err(RuleStop::Unsaid(kind)) => chains[place].add_unread(alloc, parts.handle, kind),
+        Err(RuleStop::OutOfMemory) => Err(AllocError),
+    }
+}
+
+/// A rule of a family, whose chain stands before it.
+fn add_rule(
+    alloc: Global,
+    answers: Answers,
+    chains: &mut Vec<NftChain>,
+    family: &str,
+    said: &Value<'_>,
+) -> Result<(), Stop>
+    ensures ok { OnOk result (listed.with_rule answers chains.old.items family.now
+        (value_view said.now) ≡ Ok chains.new.items) }
+    ensures err { IfErr result (Refuses (listed.with_rule answers chains.old.items family.now
+        (value_view said.now))) }
+{
+    match rule_parts(family, said) {
+        Ok(parts) => match place_of(chains, parts.owner, false) {
+            Some(place) => {
+                put_rule(alloc, answers, chains, parts, place)?;
+                Ok(())
+            }
+            None => Err(Stop::Faulty(ObjectKind::NoChain)),
+        },
+        Err(kind) => Err(Stop::Faulty(kind)),
+    }
+}
+
+/// Puts a chain without rules after the others.
+fn put_chain(
+    alloc: Global,
+    chains: &mut Vec<NftChain>,
+    parts: ChainParts<'_>,
+) -> Result<(), AllocError>
+    ensures { OnOk result (chains.new.items ≡ listed.one_more chains.old.items
+        (record { owner = names_of parts.entry.owner; policy = parts.entry.policy })) }
+{
+    chains.push(NftChain::new(alloc, parts.owner, parts.policy)?)?;
+    Ok(())
+}
+
+/// A chain of a family, which didn't stand before.
+fn add_chain(
+    alloc: Global,
+    answers: Answers,
+    chains: &mut Vec<NftChain>,
+    family: &str,
+    said: &Value<'_>,
+) -> Result<(), Stop>
+    ensures ok { OnOk result (listed.with_chain answers chains.old.items family.now
+        (value_view said.now) ≡ Ok chains.new.items) }
+    ensures err { IfErr result (Refuses (listed.with_chain answers chains.old.items family.now
+        (value_view said.now))) }
+{
+    match chain_parts(answers, family, said) {
+        Ok(parts) => {
+            if place_of(chains, parts.owner, false).is_some() {
+                return Err(Stop::Faulty(ObjectKind::ChainTwice));
+            }
+            put_chain(alloc, chains, parts)?;
+            Ok(())
+        }
+        Err(kind) => Err(Stop::Faulty(kind)),
+    }
+}
+
+/// Whether chains and rules of a family are read.
+fn is_read(family: &str) -> bool
+    ensures { result ≡ listed.is_read family.now }
+{
+    family == "ip" || family == "inet"
+}
+
+/// Whether objects of a name say nothing of packets by themselves.
+fn is_silent(name: &str) -> bool
+    ensures { result ≡ listed.is_silent name.now }
+{
+    name == "metainfo" || name == "set" || name == "map" || name == "counter"
+}
+
+/// A chain. Those of other families have no part.
+fn add_chain_object(
+    alloc: Global,
+    answers: Answers,
+    chains: &mut Vec<NftChain>,
+    said: &Value<'_>,
+) -> Result<(), Stop>
+    ensures ok { OnOk result (listed.with_chain_object answers chains.old.items
+        (value_view said.now) ≡ Ok chains.new.items) }
+    ensures err { IfErr result (Refuses (listed.with_chain_object answers chains.old.items
+        (value_view said.now))) }
+{
+    let Some(family) = text_in("family", said) else {
+        return Err(Stop::Faulty(ObjectKind::NoFamily));
+    };
+    if !is_read(family) {
+        return Ok(());
+    }
+    add_chain(alloc, answers, chains, family, said)
+}
+
+/// A rule. Those of other families have no part.
+fn add_rule_object(
+    alloc: Global,
+    answers: Answers,
+    chains: &mut Vec<NftChain>,
+    said: &Value<'_>,
+) -> Result<(), Stop>
+    ensures ok { OnOk result (listed.with_rule_object answers chains.old.items
+        (value_view said.now) ≡ Ok chains.new.items) }
+    ensures err { IfErr result (Refuses (listed.with_rule_object answers chains.old.items
+        (value_view said.now))) }
+{
+    let Some(family) = text_in("family", said) else {
+        return Err(Stop::Faulty(ObjectKind::NoFamily));
+    };
+    if !is_read(family) {
+        return Ok(());
+    }
+    add_rule(alloc, answers, chains, family, said)
+}
+
+/// A table has no flags: one that is dormant has no packets.
+fn table_fault(said: &Value<'_>) -> Result<(), Stop>
+    ensures { MatchResult result
+        (λ _. listed.has_flags (value_view said.now) ≡ false)
+        (λ stop. (listed.has_flags (value_view said.now) ≡ true)
+        × (stop ≡ Stop.Faulty ObjectKind.BadTable)) }
+{
+    if said.get("flags").is_some() {
+        return Err(Stop::Faulty(ObjectKind::BadTable));
+    }
+    Ok(())
+}
+
+/// An object by its name.
+fn add_named_object(
+    alloc: Global,
+    answers: Answers,
+    chains: &mut Vec<NftChain>,
+    name: &str,
+    said: &Value<'_>,
+) -> Result<(), Stop>
+    ensures ok { OnOk result (listed.with_named_object answers chains.old.items name.now
+        (value_view said.now) ≡ Ok chains.new.items) }
+    ensures err { IfErr result (Refuses (listed.with_named_object answers chains.old.items name.now
+        (value_view said.now))) }
+{
+    match name {
+        "rule" => add_rule_object(alloc, answers, chains, said),
+        "chain" => add_chain_object(alloc, answers, chains, said),
+        "table" => table_fault(said),
+        _ => {
+            if is_silent(name) {
+                return Ok(());
+            }
+            Err(Stop::Faulty(ObjectKind::UnknownObject))
+        }
+    }
+}
+
+/// An object, which has one member.
+fn add_object(
+    alloc: Global,
+    answers: Answers,
+    chains: &mut Vec<NftChain>,
+    object: &Value<'_>,
+) -> Result<(), Stop>
+    ensures ok { OnOk result (listed.with_object answers chains.old.items
+        (value_view object.now) ≡ Ok chains.new.items) }
+    ensures err { IfErr result (Refuses (listed.with_object answers chains.old.items
+        (value_view object.now))) }
+{
+    match only(object) {
+        Some((name, said)) => add_named_object(alloc, answers, chains, name, said),
+        None => Err(Stop::Faulty(ObjectKind::UnknownObject)),
+    }
+}
+
+/// The chains of objects, or the first faulty one.
+fn read_objects(
+    alloc: Global,
+    answers: Answers,
+    objects: &[Value<'_>],
+) -> Result<Vec<NftChain>, NftFault>
+    ensures chains { IfOk result (λ chains.
+        listed.with_objects answers 0 [] (map value_view objects.now) ≡ Ok chains.items) }
+    ensures fault { IfErr result (IsToldOf
+        (listed.with_objects answers 0 [] (map value_view objects.now))) }
+{
+    let mut chains = Vec::new(alloc);
+    let mut number = 0;
+    for object in objects {
+        number += 1;
+        match add_object(alloc, answers, &mut chains, object) {
+            Ok(()) => {}
+            Err(stop) => return Err(fault_of(number, stop)),
+        }
+    }
+    Ok(chains)
+}
+
+/// Why a ruleset isn't read whose object isn't.
+fn fault_of(object: usize, stop: Stop) -> NftFault
+    ensures { result ≡ fault_of object stop }
+{
+    match stop {
+        Stop::Faulty(kind) => NftFault::Object(ObjectFault { object, kind }),
+        Stop::OutOfMemory => NftFault::OutOfMemory,
+    }
+}
+
+/// A fault of the whole file.
+fn whole_fault(kind: ObjectKind) -> NftFault
+    ensures { result ≡ NftFault.Object (listed.whole_fault kind) }
+{
+    NftFault::Object(ObjectFault { object: 0, kind })
+}
+
+/// The objects of a listed.
+fn objects_of<'v, 'a>(value: &'v Value<'a>) -> Option<&'v [Value<'a>]>
+    ensures { MatchOption result
+        (listed.objects_of (value_view value.now) ≡ None)
+        (λ objects. listed.objects_of (value_view value.now) ≡ Some (map value_view objects.now)) }
+{
+    match only(value)? {
+        ("nftables", said) => items_of(said),
+        _ => None,
+    }
+}
+
+/// The chains of a value.
+fn read_value(alloc: Global, answers: Answers, value: &Value<'_>) -> Result<Vec<NftChain>, NftFault>
+    ensures chains { IfOk result (λ chains.
+        listed.chains_of_objects answers (listed.objects_of (value_view value.now))
+        ≡ Ok chains.items) }
+    ensures fault { IfErr result (IsToldOf
+        (listed.chains_of_objects answers (listed.objects_of (value_view value.now)))) }
+{
+    match objects_of(value) {
+        Some(objects) => read_objects(alloc, answers, objects),
+        None => Err(whole_fault(ObjectKind::NoList)),
+    }
+}
+
+/// The chains of a ruleset for IPv4 packets, or a faulty object.
+///
+/// `bytes` holds the whole file, at most [`MAX_RULESET`] bytes: an object with the one member
+/// `nftables`, the list of the ruleset's objects. Chains and rules of the families ip and inet are
+/// read, and those of other families have no part. Each rule stands after its chain, and after the
+/// chains that it leads to.
+///
+/// A rule that no rule file says leads to no chain, so that `list_chains` refuses each chain whose
+/// packets may come to it; the chain's faults have its cause.
+///
+/// It takes memory in proportion to the file.
+pub fn read_ruleset(
+    alloc: Global,
+    bytes: &[u8],
+    answers: Answers,
+) -> Result<Vec<NftChain>, NftFault>
+    ensures text { IfOk result (λ _. IsUtf8 bytes.now) }
+    ensures chains { IfOk result
+        (λ chains. listed.chains_of answers bytes.now ≡ Ok chains.items) }
+    ensures fault { IsUtf8 bytes.now → IfErr result
+        (IsToldOf (listed.chains_of answers bytes.now)) }
+{
+    if is_too_long(bytes) {
+        return Err(whole_fault(ObjectKind::FileTooLong));
+    }
+    read_text(alloc, bytes, answers)
+}
+
+/// Whether a ruleset has more bytes than it may have.
+fn is_too_long(bytes: &[u8]) -> bool
+    ensures { result ≡ nat_lt listed.max_ruleset (length bytes.now) }
+{
+    bytes.len() > MAX_RULESET
+}
+
+/// The chains of a text of JSON.
+fn read_text(alloc: Global, bytes: &[u8], answers: Answers) -> Result<Vec<NftChain>, NftFault>
+    ensures text { IfOk result (λ _. IsUtf8 bytes.now) }
+    ensures chains { IfOk result (λ chains.
+        listed.chains_of_document answers (document bytes.now) ≡ Ok chains.items) }
+    ensures fault { IsUtf8 bytes.now → IfErr result
+        (IsToldOf (listed.chains_of_document answers (document bytes.now))) }
+{
+    let mut scratch = Scratch::new(alloc);
+    match Value::from_slice(alloc, bytes, &mut scratch) {
+        Ok(value) => read_value(alloc, answers, &value),
+        Err(Error::OutOfMemory) => Err(NftFault::OutOfMemory),
+        Err(Error::Invalid | Error::TooLong | Error::DuplicateKey) => {
+            Err(whole_fault(ObjectKind::NotJson))
+        }
+    }
+}
