@@ -2,7 +2,6 @@
 use Rattle.std.proofs.Common.{◌≡◌, ℕ, ◌+◌, List, [], ◌∷◌, ◌++◌, Some, None, Result, Ok, refl, ap, ◌∙◌}
 use Rattle.json.specs.Json.{Json}
 use Rattle.list_chains.specs.declared.span.Span.{Span}
-use Rattle.nft_reader.specs.declared.chain.Answers.{Answers}
 use Rattle.nft_reader.specs.declared.fault.RuleKind.{RuleKind}
 use Rattle.nft_reader.specs.declared.fault.RuleStop.{RuleStop}
 use Rattle.nft_reader.specs.declared.fault.RuleStop.TheVariants as rule
@@ -10,7 +9,8 @@ use Rattle.nft_reader.specs.declared.fault.ObjectKind.{ObjectKind}
 use Rattle.nft_reader.specs.declared.fault.Stop.{Stop}
 use Rattle.nft_reader.specs.declared.fault.Stop.TheVariants as stopped
 use Rattle.nft_reader.specs.declared.packets.Field.{Field}
-use Rattle.nft_reader.specs.Chains.{ListedChain, Names}
+use Rattle.nft_reader.specs.Chains.{ListedChain}
+use Rattle.nft_reader.specs.Known.{Known, Question}
 use Rattle.nft_reader.specs.Readings.{◌>>=◌, ReadRule, with_statement, with_statements}
 use Rattle.nft_reader.specs.Ruleset.{object_then, with_object, with_objects}
 use Rattle.nft_reader.specs.Stops.{IsToldOf, Refuses, RefusesRule, fault_of}
@@ -40,67 +40,67 @@ span_end which spans = refl
 
 -- ---- statements
 
-module _ (chains : List ListedChain) (owner : Names) (reading : ReadRule) where
+module _ (known : Known) (reading : ReadRule) where
   -- a statement, and then those after it
   statement_first : (statement : Json) (statements : List Json) →
-      with_statements chains owner reading (statement ∷ statements)
-      ≡ (with_statement chains owner reading statement >>= λ more. with_statements chains owner more statements)
+      with_statements known reading (statement ∷ statements)
+      ≡ (with_statement known reading statement >>= λ more. with_statements known more statements)
   unfolding with_statements
   statement_first statement statements = refl
 
   -- it was read
   pub statement_more : (statement : Json) (statements : List Json) (more : ReadRule) →
-      with_statement chains owner reading statement ≡ Ok more →
-      with_statements chains owner reading (statement ∷ statements) ≡ with_statements chains owner more statements
+      with_statement known reading statement ≡ Ok more →
+      with_statements known reading (statement ∷ statements) ≡ with_statements known more statements
   statement_more statement statements more read =
       statement_first statement statements
-      ∙ ap (λ (it : Result ReadRule RuleKind). it >>= λ next. with_statements chains owner next statements) read
+      ∙ ap (λ (it : Result ReadRule RuleKind). it >>= λ next. with_statements known next statements) read
 
   -- or it is why the rule isn't read
   pub statement_refused : (statement : Json) (statements : List Json) (stop : RuleStop) →
-      RefusesRule (with_statement chains owner reading statement) stop →
-      RefusesRule (with_statements chains owner reading (statement ∷ statements)) stop
+      RefusesRule (with_statement known reading statement) stop →
+      RefusesRule (with_statements known reading (statement ∷ statements)) stop
   statement_refused statement statements (rule.Unsaid kind) said =
       statement_first statement statements
-      ∙ ap (λ (it : Result ReadRule RuleKind). it >>= λ next. with_statements chains owner next statements) said
+      ∙ ap (λ (it : Result ReadRule RuleKind). it >>= λ next. with_statements known next statements) said
   statement_refused statement statements rule.OutOfMemory said = said
 
   -- none is left
-  pub statement_end : with_statements chains owner reading [] ≡ Ok reading
+  pub statement_end : with_statements known reading [] ≡ Ok reading
   unfolding with_statements
   statement_end = refl
 
 -- ---- objects
 
-module _ (asked : Answers) (number : ℕ) (chains : List ListedChain) where
+module _ (question : Question) (number : ℕ) (chains : List ListedChain) where
   -- an object, and then those after it
   object_first : (value : Json) (values : List Json) →
-      with_objects asked number chains (value ∷ values)
-      ≡ object_then (number + 1) (with_object asked chains value)
-      (λ more. with_objects asked (number + 1) more values)
+      with_objects question number chains (value ∷ values)
+      ≡ object_then (number + 1) (with_object question chains value)
+      (λ more. with_objects question (number + 1) more values)
   unfolding with_objects
   object_first value values = refl
 
   -- it was read
   pub object_more : (value : Json) (values : List Json) (more : List ListedChain) →
-      with_object asked chains value ≡ Ok more →
-      with_objects asked number chains (value ∷ values) ≡ with_objects asked (number + 1) more values
+      with_object question chains value ≡ Ok more →
+      with_objects question number chains (value ∷ values) ≡ with_objects question (number + 1) more values
   object_more value values more read =
       object_first value values
       ∙ ap (λ (it : Result (List ListedChain) ObjectKind).
-      object_then (number + 1) it (λ next. with_objects asked (number + 1) next values)) read
+      object_then (number + 1) it (λ next. with_objects question (number + 1) next values)) read
 
   -- or its fault is that of the ruleset
   pub object_told : (value : Json) (values : List Json) (stop : Stop) →
-      Refuses (with_object asked chains value) stop →
-      IsToldOf (with_objects asked number chains (value ∷ values)) (fault_of (number + 1) stop)
+      Refuses (with_object question chains value) stop →
+      IsToldOf (with_objects question number chains (value ∷ values)) (fault_of (number + 1) stop)
   object_told value values (stopped.Faulty kind) said =
       object_first value values
       ∙ ap (λ (it : Result (List ListedChain) ObjectKind).
-      object_then (number + 1) it (λ next. with_objects asked (number + 1) next values)) said
+      object_then (number + 1) it (λ next. with_objects question (number + 1) next values)) said
   object_told value values stopped.OutOfMemory said = said
 
   -- none is left
-  pub object_end : with_objects asked number chains [] ≡ Ok chains
+  pub object_end : with_objects question number chains [] ≡ Ok chains
   unfolding with_objects
   object_end = refl

@@ -1,5 +1,5 @@
--- What a comparison compares (libnftables-json(5), "match", "payload" and "meta"). The packets are of
--- IPv4: what is in the header of IPv6 none of them has.
+-- What a comparison compares (libnftables-json(5), "match", "payload" and "meta"). The packets are
+-- of IPv4: what is in the header of IPv6 none of them has.
 use Rattle.std.specs.Prelude.{ℕ, ◌==◌, Bool, true, false, if◌then◌else◌, codes, List}
 use Rattle.std.specs.Prelude.{Option, Some, None, option_and_then}
 use Rattle.std.specs.Option.{option_map}
@@ -42,7 +42,8 @@ payload_field protocol name =
 abbrev pub payload_of : Json → Option Left
 payload_of said =
     if len_of said == 2
-    then option_and_then (λ protocol. option_and_then (payload_field protocol) (text_in (codes "field") said))
+    then option_and_then (λ protocol.
+    option_and_then (payload_field protocol) (text_in (codes "field") said))
     (text_in (codes "protocol") said)
     else None
 
@@ -52,16 +53,18 @@ meta_key key =
     if bytes_eq key (codes "l4proto") then Some (left.Plain field.Protocol)
     else (if bytes_eq key (codes "nfproto") then Some left.Nfproto else None)
 
+-- what a comparison of that compares
 abbrev pub meta_of : Json → Option Left
 meta_of said =
     if len_of said == 1 then option_and_then meta_key (text_in (codes "key") said) else None
 
--- the left side of a comparison
+-- the left side of a comparison by its name
 abbrev pub left_named : List ℕ → Json → Option Left
 left_named name said =
     if bytes_eq name (codes "payload") then payload_of said
     else (if bytes_eq name (codes "meta") then meta_of said else None)
 
+-- the left side of a comparison
 abbrev pub left_of : Json → Option Left
 left_of value = option_and_then (λ found. left_named found.0 found.1) (only value)
 

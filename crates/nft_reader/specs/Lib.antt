@@ -2,8 +2,9 @@ pub mod Shapes
 pub mod Packets
 pub mod Values
 pub mod Compared
-pub mod Readings
 pub mod Chains
+pub mod Known
+pub mod Readings
 pub mod Ruleset
 pub mod Stops
 pub mod RulesetExamples

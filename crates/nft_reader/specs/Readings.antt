@@ -1,6 +1,6 @@
--- A rule, statement by statement (libnftables-json(5), "STATEMENTS"). Its comparisons say which packets
--- it catches, and its last statement what becomes of them. A statement that isn't known here isn't
--- passed over: the rule then isn't said.
+-- A rule, statement by statement (libnftables-json(5), "STATEMENTS"). Its comparisons say which
+-- packets it catches, and its last statement what becomes of them. A statement that isn't known here
+-- isn't passed over: the rule then isn't said.
 use Rattle.std.specs.Prelude.{ℕ, ◌==◌, Bool, true, false, is_some, if◌then◌else◌, codes}
 use Rattle.std.specs.Prelude.{List, [], ◌∷◌, Option, Some, None, option_and_then, Result, Ok, Err}
 use Rattle.std.specs.Borrow.{Bor}
@@ -18,8 +18,9 @@ use Rattle.nft_reader.specs.declared.reading.Verdict.{Verdict}
 use Rattle.nft_reader.specs.declared.reading.Verdict.TheVariants as verdict
 use Rattle.nft_reader.specs.declared.reading.Act.{Act}
 use Rattle.nft_reader.specs.declared.reading.Act.TheVariants as act
-use Rattle.nft_reader.specs.Chains.{ListedChain, Names, place_of}
+use Rattle.nft_reader.specs.Chains.{place_of}
 use Rattle.nft_reader.specs.Compared.{MatchSides, is_ip4, sides_of}
+use Rattle.nft_reader.specs.Known.{Known}
 use Rattle.nft_reader.specs.Packets.{CaughtBoxes, all_caught, boxes_of, never, with_boxes}
 use Rattle.nft_reader.specs.Shapes.{len_of, only, text_in}
 use Rattle.nft_reader.specs.Values.{first_of, spans_of_value}
@@ -65,11 +66,12 @@ of_protocol number reading =
 abbrev pub of_none : ReadRule → ReadRule
 of_none reading = record reading { caught = never reading.caught }
 
--- the right side of a comparison with a field, if it is known
+-- a comparison of a field with the spans of the right side, if they are known
 abbrev pub with_found : Field → Bool → ReadRule → Option (List Span) → ReadRule
 with_found which negated reading None = with_cause kind.CantSay reading
 with_found which negated reading (Some spans) = with_spans which negated spans reading
 
+-- a comparison of a field with the right side
 abbrev pub with_value : Field → Bool → Json → ReadRule → ReadRule
 with_value which negated right reading =
     with_found which negated reading (spans_of_value which right)
@@ -87,37 +89,39 @@ abbrev pub family_of : Json → Option Bool
 family_of value = option_and_then is_ip4 (as_str value)
 
 -- a comparison by its left side
-abbrev pub with_side : Left → Bool → Json → ReadRule → ReadRule
-with_side (left.Plain which) negated right reading = with_value which negated right reading
-with_side (left.Ports number which) negated right reading =
+abbrev pub with_side : Known → Left → Bool → Json → ReadRule → ReadRule
+with_side known (left.Plain which) negated right reading = with_value which negated right reading
+with_side known (left.Ports number which) negated right reading =
     with_value which negated right (of_protocol number reading)
-with_side left.OtherFamily negated right reading = of_none reading
-with_side left.Nfproto negated right reading =
+with_side known left.OtherFamily negated right reading = of_none reading
+with_side known left.Nfproto negated right reading =
     with_truth negated reading (family_of right)
 
--- a comparison, if it is known
-abbrev pub with_sides : ReadRule → Option MatchSides → ReadRule
-with_sides reading None = with_cause kind.CantSay reading
-with_sides reading (Some sides) = with_side sides.side sides.negated sides.right reading
+-- a comparison by its sides, if they are known
+abbrev pub with_sides : Known → ReadRule → Option MatchSides → ReadRule
+with_sides known reading None = with_cause kind.CantSay reading
+with_sides known reading (Some sides) = with_side known sides.side sides.negated sides.right reading
 
-abbrev pub with_match : Json → ReadRule → ReadRule
-with_match said reading = with_sides reading (sides_of said)
+-- a comparison
+abbrev pub with_match : Known → Json → ReadRule → ReadRule
+with_match known said reading = with_sides known reading (sides_of said)
 
 -- ---- what becomes of packets
 
+-- a verdict
 abbrev pub decided : Verdict → ReadRule → ReadRule
 decided says reading = with_act (act.Decide says) reading
 
--- An answer to the sender by its type: a reset of TCP is one for packets of TCP alone, and a message
--- of ICMP one for those of its family, although the list doesn't show these comparisons.
+-- An answer to the sender by its type: a reset of TCP is one for packets of TCP alone, and a
+-- message of ICMP one for those of its family, although the list doesn't show these comparisons.
 abbrev pub rejected_by : ReadRule → Option (List ℕ) → Result ReadRule RuleKind
 rejected_by reading None = Err kind.BadStatement
 rejected_by reading (Some type) =
     if bytes_eq type (codes "icmpx") then Ok (decided verdict.Reject reading)
     else (if bytes_eq type (codes "icmp") then Ok (decided verdict.Reject reading)
     else (if bytes_eq type (codes "icmpv6") then Ok (decided verdict.Reject (of_none reading))
-    else (if bytes_eq type (codes "tcp reset") then Ok (decided verdict.Reject (of_protocol 6 reading))
-    else Err kind.BadStatement)))
+    else (if bytes_eq type (codes "tcp reset")
+    then Ok (decided verdict.Reject (of_protocol 6 reading)) else Err kind.BadStatement)))
 
 -- the text of a type, if there is one
 abbrev pub text_of : Option (Bor (List ℕ)) → Option (List ℕ)
@@ -139,10 +143,11 @@ abbrev pub led_found : Option ℕ → Result ℕ RuleKind
 led_found None = Err kind.NoTarget
 led_found (Some place) = Ok place
 
-abbrev pub led_place : List ListedChain → Names → Option (List ℕ) → Result ℕ RuleKind
-led_place chains owner None = Err kind.BadStatement
-led_place chains owner (Some name) =
-    led_found (place_of true (record owner { name = name }) chains)
+-- the place of the chain of a name
+abbrev pub led_place : Known → Option (List ℕ) → Result ℕ RuleKind
+led_place known None = Err kind.BadStatement
+led_place known (Some name) =
+    led_found (place_of true (record known.owner { name = name }) known.chains)
 
 -- ---- statements
 
@@ -164,34 +169,34 @@ with_verdict name reading =
     else with_word name reading))
 
 -- a statement by its name and what it says
-abbrev pub with_named : List ListedChain → Names → List ℕ → Json → ReadRule →
+abbrev pub with_named : Known → List ℕ → Json → ReadRule →
     Result ReadRule RuleKind
-with_named chains owner name said reading =
-    if bytes_eq name (codes "match") then Ok (with_match said reading)
+with_named known name said reading =
+    if bytes_eq name (codes "match") then Ok (with_match known said reading)
     else (if bytes_eq name (codes "reject") then rejected said reading
     else (if bytes_eq name (codes "jump")
-    then (led_place chains owner (target_of said) >>= λ place. Ok (with_act (act.Jump place) reading))
+    then (led_place known (target_of said) >>= λ place. Ok (with_act (act.Jump place) reading))
     else (if bytes_eq name (codes "goto")
-    then (led_place chains owner (target_of said) >>= λ place. Ok (with_act (act.Go place) reading))
+    then (led_place known (target_of said) >>= λ place. Ok (with_act (act.Go place) reading))
     else with_verdict name reading)))
 
 -- a statement has one member
-abbrev pub with_only : List ListedChain → Names → ReadRule → Option (List ℕ × Json) →
+abbrev pub with_only : Known → ReadRule → Option (List ℕ × Json) →
     Result ReadRule RuleKind
-with_only chains owner reading None = Err kind.BadStatement
-with_only chains owner reading (Some found) = with_named chains owner found.0 found.1 reading
+with_only known reading None = Err kind.BadStatement
+with_only known reading (Some found) = with_named known found.0 found.1 reading
 
 -- a statement, which doesn't stand after one that decides
-abbrev pub with_statement : List ListedChain → Names → ReadRule → Json →
+abbrev pub with_statement : Known → ReadRule → Json →
     Result ReadRule RuleKind
-with_statement chains owner reading statement =
+with_statement known reading statement =
     if is_some reading.act then Err kind.AfterVerdict
-    else with_only chains owner reading (only statement)
+    else with_only known reading (only statement)
 
 -- the statements of a rule
-unfoldable pub with_statements : List ListedChain → Names → ReadRule → List Json →
+unfoldable pub with_statements : Known → ReadRule → List Json →
     Result ReadRule RuleKind
-with_statements chains owner reading [] = Ok reading
-with_statements chains owner reading (statement ∷ statements) =
-    with_statement chains owner reading statement >>= λ more.
-    with_statements chains owner more statements
+with_statements known reading [] = Ok reading
+with_statements known reading (statement ∷ statements) =
+    with_statement known reading statement >>= λ more.
+    with_statements known more statements

@@ -1,6 +1,7 @@
--- A ruleset as `nft -j list ruleset` prints it (libnftables-json(5), "RULESET ELEMENTS"): objects of
--- tables, chains, rules and others. The chains are those of the families ip and inet. A rule that no
--- rule file says leads to no chain, so that a chain whose packets come to it isn't turned into rules.
+-- A ruleset as `nft -j list ruleset` prints it (libnftables-json(5), "RULESET ELEMENTS"): objects
+-- of tables, chains, rules and others. The chains are those of the families ip and inet. A rule that
+-- no rule file says leads to no chain, so that a chain whose packets come to it isn't turned into
+-- rules.
 use Rattle.std.specs.Prelude.{ℕ, ◌+◌, ◌-◌, ◌^◌, ◌==◌, Bool, false, ◌&&◌, ◌||◌, nat_lt, is_some}
 use Rattle.std.specs.Prelude.{if◌then◌else◌, codes, slice_set, slice_index_or, length}
 use Rattle.std.specs.Prelude.{List, [], ◌∷◌, ◌++◌, Option, Some, None, option_and_then, Result, Ok, Err}
@@ -19,10 +20,12 @@ use Rattle.nft_reader.specs.declared.reading.Verdict.{Verdict}
 use Rattle.nft_reader.specs.declared.reading.Verdict.TheVariants as verdict
 use Rattle.nft_reader.specs.declared.reading.Act.{Act}
 use Rattle.nft_reader.specs.declared.reading.Act.TheVariants as act
-use Rattle.nft_reader.specs.declared.chain.Answers.{Answers}
-use Rattle.nft_reader.specs.declared.chain.Answers.TheVariants as answers
+use Rattle.nft_reader.specs.declared.known.Answers.{Answers}
+use Rattle.nft_reader.specs.declared.known.Answers.TheVariants as answers
+use Rattle.nft_reader.specs.declared.known.Asked.{Asked}
 use Rattle.nft_reader.specs.declared.ruleset.TheConstants.{MAX_RULESET}
 use Rattle.nft_reader.specs.Chains.{ListedChain, Names, no_chain, place_of}
+use Rattle.nft_reader.specs.Known.{Known, Question}
 use Rattle.nft_reader.specs.Packets.{all_caught, rules_of}
 use Rattle.nft_reader.specs.Readings.{◌>>=◌, ReadRule, no_reading, with_statements}
 use Rattle.nft_reader.specs.Shapes.{items_in, items_of, len_of, number_in, only, text_in}
@@ -139,6 +142,7 @@ pub record RuleParts : Type 0 where
   pub handle : ℕ
   pub statements : List Json
 
+-- the parts of a rule of a family
 abbrev pub parts_of_rule : List ℕ → Json → Result RuleParts ObjectKind
 parts_of_rule family said =
     owner_of object.BadRule family (codes "chain") said >>= λ owner.
@@ -147,22 +151,25 @@ parts_of_rule family said =
     Ok (record { owner = owner; handle = handle; statements = statements })
 
 -- the chains with a rule of one of them
-abbrev pub with_rule_at : Answers → RuleParts → List ListedChain → ℕ → List ListedChain
-with_rule_at asked parts chains place =
+abbrev pub with_rule_at : Question → RuleParts → List ListedChain → ℕ → List ListedChain
+with_rule_at question parts chains place =
     slice_set chains place
-    (with_read asked parts.handle (with_statements chains parts.owner no_reading parts.statements)
+    (with_read question.asked.answers parts.handle
+    (with_statements (record { question = question; chains = chains; owner = parts.owner })
+    no_reading parts.statements)
     (slice_index_or chains place no_chain))
 
 -- the chains with a rule, whose chain stands before it
-abbrev pub with_parts : Answers → List ListedChain → RuleParts → Result (List ListedChain) ObjectKind
-with_parts asked chains parts =
+abbrev pub with_parts : Question → List ListedChain → RuleParts →
+    Result (List ListedChain) ObjectKind
+with_parts question chains parts =
     or_fault object.NoChain (place_of false parts.owner chains) >>= λ place.
-    Ok (with_rule_at asked parts chains place)
+    Ok (with_rule_at question parts chains place)
 
 -- the chains with a rule of a family
-abbrev pub with_rule : Answers → List ListedChain → List ℕ → Json →
+abbrev pub with_rule : Question → List ListedChain → List ℕ → Json →
     Result (List ListedChain) ObjectKind
-with_rule asked chains family said = parts_of_rule family said >>= with_parts asked chains
+with_rule question chains family said = parts_of_rule family said >>= with_parts question chains
 
 -- ---- chains
 
@@ -182,11 +189,12 @@ has_hook said =
     is_some (text_in (codes "type") said) && is_some (text_in (codes "hook") said)
     && is_some (get (codes "prio") said)
 
--- the answer of its policy
+-- the answer of a policy, which is one
 abbrev pub policy_answer : Answers → ℕ → Option Verdict → Result (Option ℕ) ObjectKind
 policy_answer asked handle None = Err object.BadPolicy
 policy_answer asked handle (Some said) = Ok (Some (answer_of asked handle said))
 
+-- the answer of the policy of such a chain
 abbrev pub base_policy : Answers → ℕ → Json → Result (Option ℕ) ObjectKind
 base_policy asked handle said =
     if has_hook said then policy_answer asked handle (policy_in said) else Err object.BadChain
@@ -202,6 +210,7 @@ pub record ChainParts : Type 0 where
   pub owner : Names
   pub policy : Option ℕ
 
+-- the parts of a chain of a family
 abbrev pub parts_of_chain : Answers → List ℕ → Json → Result ChainParts ObjectKind
 parts_of_chain asked family said =
     owner_of object.BadChain family (codes "name") said >>= λ owner.
@@ -225,9 +234,10 @@ with_declared chains parts =
     else Ok (one_more chains parts)
 
 -- the chains with one of a family
-abbrev pub with_chain : Answers → List ListedChain → List ℕ → Json →
+abbrev pub with_chain : Question → List ListedChain → List ℕ → Json →
     Result (List ListedChain) ObjectKind
-with_chain asked chains family said = parts_of_chain asked family said >>= with_declared chains
+with_chain question chains family said =
+    parts_of_chain question.asked.answers family said >>= with_declared chains
 
 -- ---- objects
 
@@ -251,34 +261,37 @@ is_silent name =
     || bytes_eq name (codes "counter")
 
 -- a chain of a family that is read; others have no part
-abbrev pub with_chain_object : Answers → List ListedChain → Json → Result (List ListedChain) ObjectKind
-with_chain_object asked chains said =
+abbrev pub with_chain_object : Question → List ListedChain → Json →
+    Result (List ListedChain) ObjectKind
+with_chain_object question chains said =
     or_fault object.NoFamily (text_in (codes "family") said) >>= λ family.
-    if is_read family then with_chain asked chains family said else Ok chains
+    if is_read family then with_chain question chains family said else Ok chains
 
 -- a rule of such a family
-abbrev pub with_rule_object : Answers → List ListedChain → Json → Result (List ListedChain) ObjectKind
-with_rule_object asked chains said =
+abbrev pub with_rule_object : Question → List ListedChain → Json →
+    Result (List ListedChain) ObjectKind
+with_rule_object question chains said =
     or_fault object.NoFamily (text_in (codes "family") said) >>= λ family.
-    if is_read family then with_rule asked chains family said else Ok chains
+    if is_read family then with_rule question chains family said else Ok chains
 
 -- an object by its name
-abbrev pub with_named_object : Answers → List ListedChain → List ℕ → Json →
+abbrev pub with_named_object : Question → List ListedChain → List ℕ → Json →
     Result (List ListedChain) ObjectKind
-with_named_object asked chains name said =
-    if bytes_eq name (codes "rule") then with_rule_object asked chains said
-    else (if bytes_eq name (codes "chain") then with_chain_object asked chains said
+with_named_object question chains name said =
+    if bytes_eq name (codes "rule") then with_rule_object question chains said
+    else (if bytes_eq name (codes "chain") then with_chain_object question chains said
     else (if bytes_eq name (codes "table") then with_table chains said
     else (if is_silent name then Ok chains else Err object.UnknownObject)))
 
--- an object has one member
-abbrev pub with_only_object : Answers → List ListedChain → Option (List ℕ × Json) →
+-- an object by its only member, if it has one
+abbrev pub with_only_object : Question → List ListedChain → Option (List ℕ × Json) →
     Result (List ListedChain) ObjectKind
-with_only_object asked chains None = Err object.UnknownObject
-with_only_object asked chains (Some found) = with_named_object asked chains found.0 found.1
+with_only_object question chains None = Err object.UnknownObject
+with_only_object question chains (Some found) = with_named_object question chains found.0 found.1
 
-abbrev pub with_object : Answers → List ListedChain → Json → Result (List ListedChain) ObjectKind
-with_object asked chains value = with_only_object asked chains (only value)
+-- an object
+abbrev pub with_object : Question → List ListedChain → Json → Result (List ListedChain) ObjectKind
+with_object question chains value = with_only_object question chains (only value)
 
 -- the fault of an object, or what the objects after it make
 abbrev pub object_then : ℕ → Result (List ListedChain) ObjectKind →
@@ -288,36 +301,37 @@ object_then number (Err why) following = Err (record { object = number; kind = w
 object_then number (Ok chains) following = following chains
 
 -- what objects make of the chains after so many objects: the first fault is that of the ruleset
-unfoldable pub with_objects : Answers → ℕ → List ListedChain → List Json →
+unfoldable pub with_objects : Question → ℕ → List ListedChain → List Json →
     Result (List ListedChain) ObjectFault
-with_objects asked number chains [] = Ok chains
-with_objects asked number chains (value ∷ values) =
-    object_then (number + 1) (with_object asked chains value)
-    (λ more. with_objects asked (number + 1) more values)
+with_objects question number chains [] = Ok chains
+with_objects question number chains (value ∷ values) =
+    object_then (number + 1) (with_object question chains value)
+    (λ more. with_objects question (number + 1) more values)
 
 -- a fault of the whole file
 abbrev pub whole_fault : ObjectKind → ObjectFault
 whole_fault why = record { object = 0; kind = why }
 
--- the objects of a ruleset
+-- the objects of a ruleset's only member
 abbrev pub listed_objects : List ℕ → Json → Option (List Json)
 listed_objects name said = if bytes_eq name (codes "nftables") then items_of said else None
 
+-- the objects of a ruleset
 abbrev pub objects_of : Json → Option (List Json)
 objects_of value = option_and_then (λ found. listed_objects found.0 found.1) (only value)
 
 -- the chains of objects
-abbrev pub chains_of_objects : Answers → Option (List Json) → Result (List ListedChain) ObjectFault
-chains_of_objects asked None = Err (whole_fault object.NoList)
-chains_of_objects asked (Some objects) = with_objects asked 0 [] objects
+abbrev pub chains_of_objects : Question → Option (List Json) → Result (List ListedChain) ObjectFault
+chains_of_objects question None = Err (whole_fault object.NoList)
+chains_of_objects question (Some objects) = with_objects question 0 [] objects
 
 -- the chains of a text of JSON
-abbrev pub chains_of_document : Answers → Option Json → Result (List ListedChain) ObjectFault
-chains_of_document asked None = Err (whole_fault object.NotJson)
-chains_of_document asked (Some value) = chains_of_objects asked (objects_of value)
+abbrev pub chains_of_document : Question → Option Json → Result (List ListedChain) ObjectFault
+chains_of_document question None = Err (whole_fault object.NotJson)
+chains_of_document question (Some value) = chains_of_objects question (objects_of value)
 
--- the chains of a file
-abbrev pub chains_of : Answers → List ℕ → Result (List ListedChain) ObjectFault
-chains_of asked bytes =
+-- the chains of a file, under what is assumed
+abbrev pub chains_of : Asked → List ℕ → List ℕ → Result (List ListedChain) ObjectFault
+chains_of asked assumed bytes =
     if nat_lt max_ruleset (length bytes) then Err (whole_fault object.FileTooLong)
-    else chains_of_document asked (document bytes)
+    else chains_of_document (record { asked = asked; assumed = assumed }) (document bytes)

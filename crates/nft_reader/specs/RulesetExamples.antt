@@ -7,7 +7,8 @@ use Rattle.list_chains.specs.declared.chain.Target.{Target}
 use Rattle.list_chains.specs.declared.chain.Target.TheVariants.{Decide, Return, Jump}
 use Rattle.list_chains.specs.declared.span.Span.{Span}
 use Rattle.list_chains.specs.Chains.{ListRule}
-use Rattle.nft_reader.specs.declared.chain.Answers.TheVariants as answers
+use Rattle.nft_reader.specs.declared.known.Answers.TheVariants as answers
+use Rattle.nft_reader.specs.declared.known.Asked.{Asked}
 use Rattle.nft_reader.specs.declared.fault.ObjectFault.{ObjectFault}
 use Rattle.nft_reader.specs.declared.fault.ObjectKind.TheVariants as object
 use Rattle.nft_reader.specs.declared.fault.RuleFault.{RuleFault}
@@ -79,9 +80,13 @@ with_rules rules faults =
     Ok (record { owner = named (codes "web"); policy = None; rules = []; faults = [] }
     ∷ record { owner = named (codes "in"); policy = Some 2; rules = rules; faults = faults } ∷ [])
 
+-- answers that are handles
+abbrev handles : Asked
+handles = record { answers = answers.Handle }
+
 -- what a rule of the chain in says
 abbrev said : List ℕ → Result (List ListedChain) ObjectFault
-said statements = chains_of answers.Handle (declarations ++ rule_of statements)
+said statements = chains_of handles [] (declarations ++ rule_of statements)
 
 -- ip saddr 10.0.0.1 accept
 an_address : said
@@ -174,11 +179,13 @@ unfolding json_on_literals with_statements with_objects spans_after digits
 a_set_of_the_ruleset = refl
 
 -- an object that isn't known is refused, by its number
-a_command : chains_of answers.Handle (codes "{\"nftables\": [{\"metainfo\": {}}, {\"add\": {}}]}")
+a_command : chains_of handles [] (codes "{\"nftables\": [{\"metainfo\": {}}, {\"add\": {}}]}")
     ≡ Err (record { object = 2; kind = object.UnknownObject })
 unfolding json_on_literals with_objects
 a_command = refl
 
-no_json : chains_of answers.Handle (codes "table inet f {") ≡ Err (record { object = 0; kind = object.NotJson })
+-- what nft lists without -j is no JSON
+no_json : chains_of handles [] (codes "table inet f {")
+    ≡ Err (record { object = 0; kind = object.NotJson })
 unfolding json_on_literals
 no_json = refl

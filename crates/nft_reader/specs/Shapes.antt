@@ -1,6 +1,6 @@
--- Looking into a value of JSON (RFC 8259): the members of an object, one by one or how many, and the
--- items of an array. An object of which each member is asked for by its name, and that has no more
--- members than these, has nothing that is passed over.
+-- Looking into a value of JSON (RFC 8259): the members of an object, one by one or how many, and
+-- the items of an array. An object of which each member is asked for by its name, and that has no
+-- more members than these, has nothing that is passed over.
 use Rattle.std.specs.Prelude.{ℕ, suc, ◌&&◌, nat_le, if◌then◌else◌, List, [], ◌∷◌}
 use Rattle.std.specs.Prelude.{Option, Some, None, option_and_then}
 use Rattle.std.specs.Option.{option_map}

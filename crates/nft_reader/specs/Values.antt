@@ -1,6 +1,6 @@
--- What the right side of a comparison spells (libnftables-json(5), "EXPRESSIONS"): a number, a name or
--- an address; a prefix or a range; or an anonymous set of these. Numbers of ports are decimal, and
--- addresses are those of IPv4.
+-- What the right side of a comparison spells (libnftables-json(5), "EXPRESSIONS"): a number, a name
+-- or an address; a prefix or a range; or an anonymous set of these. Numbers of ports are decimal,
+-- and addresses are those of IPv4.
 use Rattle.std.specs.Prelude.{ℕ, ◌+◌, ◌-◌, ◌*◌, ◌/◌, ◌^◌, ◌==◌, nat_le, if◌then◌else◌, codes}
 use Rattle.std.specs.Prelude.{List, [], ◌∷◌, ◌++◌, Option, Some, None, option_and_then}
 use Rattle.std.specs.Option.{option_map}
@@ -54,11 +54,12 @@ first_of None other = other
 abbrev pub protocol_named : List ℕ → Option ℕ
 protocol_named name = first_of (ported_named name) (other_named name)
 
--- the protocol of a value: a name, or else a number
+-- the protocol of a value by its text, if it is one: a name, or else a number
 abbrev pub protocol_by : Json → Option (List ℕ) → Option ℕ
 protocol_by value (Some name) = protocol_named name
 protocol_by value None = number_of 255 value
 
+-- the protocol of a value
 abbrev pub protocol_of : Json → Option ℕ
 protocol_of value = protocol_by value (as_str value)
 
@@ -121,7 +122,8 @@ range_of which said = option_and_then (range_ends which) (items_of said)
 
 -- the span of one value
 abbrev pub plain_span : Field → Json → Option Span
-plain_span which value = option_map (λ number. record { low = number; high = number }) (value_of which value)
+plain_span which value =
+    option_map (λ number. record { low = number; high = number }) (value_of which value)
 
 -- the span of a value that has one member alone
 abbrev pub named_span : Field → List ℕ → Json → Option Span
@@ -157,6 +159,7 @@ elements_by value None = Some (value ∷ [])
 elements_by value (Some found) =
     if bytes_eq found.0 (codes "set") then items_of found.1 else Some (value ∷ [])
 
+-- the elements of a value
 abbrev pub elements_of : Json → Option (List Json)
 elements_of value = elements_by value (only value)
 

@@ -7,19 +7,11 @@ ghost use Rattle.nft_reader.specs.Ruleset.{verdict_answer};
 
 use crate::caught::Caught;
 use crate::fault::{RuleFault, RuleKind, StartFault};
+use crate::known::Answers;
 use crate::reading::{Act, Reading, Verdict};
 use list_chains::{Chain, ChainRule, Target};
 use std::alloc::{AllocError, Global};
 use std::marker::Model;
-
-/// What the answer of a rule is.
-#[derive(Clone, Copy)]
-pub enum Answers {
-    /// Its handle, and of a policy that of its chain.
-    Handle,
-    /// 1 where it accepts, 2 where it drops, and 3 where it rejects.
-    Verdict,
-}
 
 /// The name of a chain: its family, its table, and its name there.
 #[derive(Clone, Copy)]

@@ -11,6 +11,7 @@
 //! | `values` | the right side of a comparison: values, prefixes, ranges and sets |
 //! | `compared` | its left side: fields of headers, and what is known beside them |
 //! | `reading` | a rule, statement by statement |
+//! | `known` | what is asked, and what is known where a rule is read |
 //! | `chain` | a chain: its name, its policy and its rules |
 //! | `parts` | what the objects of chains and rules say |
 //! | `ruleset` | a ruleset, object by object, and its chains |
@@ -23,6 +24,7 @@ mod caught;
 mod chain;
 mod compared;
 mod fault;
+mod known;
 mod packets;
 mod parts;
 mod reading;
@@ -30,6 +32,7 @@ mod ruleset;
 mod shapes;
 mod values;
 
-pub use chain::{Answers, NftChain, chains_alone, start_of};
+pub use chain::{NftChain, chains_alone, start_of};
 pub use fault::{NftFault, ObjectFault, ObjectKind, RuleFault, RuleKind, StartFault};
+pub use known::{Answers, Asked};
 pub use ruleset::{MAX_RULESET, read_ruleset};

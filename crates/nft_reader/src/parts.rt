@@ -5,8 +5,9 @@ ghost use Rattle.json.specs.Value.{value_view};
 ghost use Rattle.nft_reader.specs.Chains.{names_of};
 ghost use Rattle.nft_reader.specs.Ruleset as listed;
 
-use crate::chain::{Answers, Owner, answer_of};
+use crate::chain::{Owner, answer_of};
 use crate::fault::ObjectKind;
+use crate::known::Answers;
 use crate::reading::Verdict;
 use crate::shapes::{items_in, len_of, number_in, text_in};
 use json::Value;

@@ -2,15 +2,16 @@
 
 ghost use Rattle.std.specs.Prelude.{◌≡◌, map, MatchResult, Ok};
 ghost use Rattle.json.specs.Value.{value_view};
-ghost use Rattle.nft_reader.specs.Chains.{names_of};
+ghost use Rattle.nft_reader.specs.Known.{known_of};
 ghost use Rattle.nft_reader.specs.Readings.{family_of, led_place, no_reading, target_of};
 ghost use Rattle.nft_reader.specs.Readings.{with_statements};
 ghost use Rattle.nft_reader.specs.Stops.{RefusesRule};
 
 use crate::caught::Caught;
-use crate::chain::{NftChain, Owner, place_of};
-use crate::compared::{Left, is_ip4, sides_of};
+use crate::chain::{Owner, place_of};
+use crate::compared::{Left, Sides, is_ip4, sides_of};
 use crate::fault::{RuleKind, RuleStop};
+use crate::known::Known;
 use crate::packets::Field;
 use crate::shapes::{len_of, only, text_in};
 use crate::values::spans_of_value;
@@ -63,7 +64,7 @@ const TCP: u64 = 6;
 impl Reading {
     ghost use Rattle.std.specs.Prelude.{◌≡◌, ◌∷◌, [], map, IfOk, IfErr, OnOk, Ok};
     ghost use Rattle.json.specs.Value.{value_view};
-    ghost use Rattle.nft_reader.specs.Chains.{names_of};
+    ghost use Rattle.nft_reader.specs.Known.{known_of};
     ghost use Rattle.nft_reader.specs.Readings as readings;
     ghost use Rattle.nft_reader.specs.Stops.{RefusesRule};
 
@@ -147,13 +148,17 @@ impl Reading {
     fn add_side(
         &mut self,
         alloc: Global,
-        side: Left,
-        negated: bool,
-        right: &Value<'_>,
+        known: Known<'_>,
+        sides: Sides<'_, '_>,
     ) -> Result<(), AllocError>
-        ensures { OnOk result
-            (self.new ≡ readings.with_side side negated (value_view right.now) self.old) }
+        ensures { OnOk result (self.new ≡ readings.with_side (known_of known.entry)
+            sides.entry.side sides.entry.negated (value_view sides.entry.right.now) self.old) }
     {
+        let Sides {
+            side,
+            negated,
+            right,
+        } = sides;
         match side {
             Left::Plain(field) => self.add_value(alloc, field, negated, right),
             Left::Ports(number, field) => {
@@ -172,11 +177,17 @@ impl Reading {
     }
 
     /// A comparison.
-    fn add_match(&mut self, alloc: Global, said: &Value<'_>) -> Result<(), AllocError>
-        ensures { OnOk result (self.new ≡ readings.with_match (value_view said.now) self.old) }
+    fn add_match(
+        &mut self,
+        alloc: Global,
+        known: Known<'_>,
+        said: &Value<'_>,
+    ) -> Result<(), AllocError>
+        ensures { OnOk result
+            (self.new ≡ readings.with_match (known_of known.entry) (value_view said.now) self.old) }
     {
         match sides_of(said) {
-            Some(sides) => self.add_side(alloc, sides.side, sides.negated, sides.right),
+            Some(sides) => self.add_side(alloc, known, sides),
             None => {
                 self.put_cause(RuleKind::CantSay);
                 Ok(())
@@ -247,28 +258,27 @@ impl Reading {
     fn add_named(
         &mut self,
         alloc: Global,
-        chains: &[NftChain],
-        owner: Owner<'_>,
+        known: Known<'_>,
         name: &str,
         said: &Value<'_>,
     ) -> Result<(), RuleStop>
-        ensures ok { OnOk result (readings.with_named chains.now (names_of owner.entry) name.now
+        ensures ok { OnOk result (readings.with_named (known_of known.entry) name.now
             (value_view said.now) self.old ≡ Ok self.new) }
-        ensures err { IfErr result (RefusesRule (readings.with_named chains.now
-            (names_of owner.entry) name.now (value_view said.now) self.old)) }
+        ensures err { IfErr result (RefusesRule (readings.with_named (known_of known.entry)
+            name.now (value_view said.now) self.old)) }
     {
         match name {
             "match" => {
-                self.add_match(alloc, said)?;
+                self.add_match(alloc, known, said)?;
                 Ok(())
             }
             "reject" => self.reject(alloc, said),
             "jump" => {
-                self.act = Some(Act::Jump(led_place(chains, owner, said)?));
+                self.act = Some(Act::Jump(led_place(known, said)?));
                 Ok(())
             }
             "goto" => {
-                self.act = Some(Act::Go(led_place(chains, owner, said)?));
+                self.act = Some(Act::Go(led_place(known, said)?));
                 Ok(())
             }
             _ => self.add_verdict(name),
@@ -279,20 +289,19 @@ impl Reading {
     fn add_statement(
         &mut self,
         alloc: Global,
-        chains: &[NftChain],
-        owner: Owner<'_>,
+        known: Known<'_>,
         statement: &Value<'_>,
     ) -> Result<(), RuleStop>
-        ensures ok { OnOk result (readings.with_statement chains.now (names_of owner.entry)
+        ensures ok { OnOk result (readings.with_statement (known_of known.entry)
             self.old (value_view statement.now) ≡ Ok self.new) }
-        ensures err { IfErr result (RefusesRule (readings.with_statement chains.now
-            (names_of owner.entry) self.old (value_view statement.now))) }
+        ensures err { IfErr result (RefusesRule (readings.with_statement (known_of known.entry)
+            self.old (value_view statement.now))) }
     {
         if self.act.is_some() {
             return Err(RuleStop::Unsaid(RuleKind::AfterVerdict));
         }
         match only(statement) {
-            Some((name, said)) => self.add_named(alloc, chains, owner, name, said),
+            Some((name, said)) => self.add_named(alloc, known, name, said),
             None => Err(RuleStop::Unsaid(RuleKind::BadStatement)),
         }
     }
@@ -306,12 +315,12 @@ fn family_of(value: &Value<'_>) -> Option<bool>
 }
 
 /// The place of the chain of the same table that a jump names.
-fn led_place(chains: &[NftChain], owner: Owner<'_>, said: &Value<'_>) -> Result<usize, RuleStop>
+fn led_place(known: Known<'_>, said: &Value<'_>) -> Result<usize, RuleStop>
     ensures { MatchResult result
-        (λ place. led_place chains.now (names_of owner.entry) (target_of (value_view said.now))
+        (λ place. led_place (known_of known.entry) (target_of (value_view said.now))
         ≡ Ok place)
         (RefusesRule
-        (led_place chains.now (names_of owner.entry) (target_of (value_view said.now)))) }
+        (led_place (known_of known.entry) (target_of (value_view said.now)))) }
 {
     if len_of(said) != 1 {
         return Err(RuleStop::Unsaid(RuleKind::BadStatement));
@@ -319,8 +328,11 @@ fn led_place(chains: &[NftChain], owner: Owner<'_>, said: &Value<'_>) -> Result<
     let Some(name) = text_in("target", said) else {
         return Err(RuleStop::Unsaid(RuleKind::BadStatement));
     };
-    let target = Owner { name, ..owner };
-    match place_of(chains, target, true) {
+    let target = Owner {
+        name,
+        ..known.owner
+    };
+    match place_of(known.chains, target, true) {
         Some(place) => Ok(place),
         None => Err(RuleStop::Unsaid(RuleKind::NoTarget)),
     }
@@ -329,19 +341,18 @@ fn led_place(chains: &[NftChain], owner: Owner<'_>, said: &Value<'_>) -> Result<
 /// The statements of a rule.
 pub(crate) fn read_statements(
     alloc: Global,
-    chains: &[NftChain],
-    owner: Owner<'_>,
+    known: Known<'_>,
     statements: &[Value<'_>],
 ) -> Result<Reading, RuleStop>
     ensures { MatchResult result
-        (λ reading. with_statements chains.now (names_of owner.entry) no_reading
+        (λ reading. with_statements (known_of known.entry) no_reading
         (map value_view statements.now) ≡ Ok reading)
-        (RefusesRule (with_statements chains.now (names_of owner.entry) no_reading
+        (RefusesRule (with_statements (known_of known.entry) no_reading
         (map value_view statements.now))) }
 {
     let mut reading = Reading::new(alloc)?;
     for statement in statements {
-        reading.add_statement(alloc, chains, owner, statement)?;
+        reading.add_statement(alloc, known, statement)?;
     }
     Ok(reading)
 }

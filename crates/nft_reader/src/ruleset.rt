@@ -6,11 +6,13 @@ ghost use Rattle.std.specs.Str.{IsUtf8};
 ghost use Rattle.json.specs.Json.{document};
 ghost use Rattle.json.specs.Value.{value_view};
 ghost use Rattle.nft_reader.specs.Chains.{names_of};
+ghost use Rattle.nft_reader.specs.Known.{question_of};
 ghost use Rattle.nft_reader.specs.Ruleset as listed;
 ghost use Rattle.nft_reader.specs.Stops.{IsToldOf, Refuses, fault_of};
 
-use crate::chain::{Answers, NftChain, place_of};
+use crate::chain::{NftChain, place_of};
 use crate::fault::{NftFault, ObjectFault, ObjectKind, RuleStop, Stop};
+use crate::known::{Asked, Known, Question};
 use crate::parts::{ChainParts, RuleParts, chain_parts, rule_parts};
 use crate::reading::read_statements;
 use crate::shapes::{items_of, only, text_in};
@@ -23,19 +25,26 @@ pub const MAX_RULESET: usize = 16_777_216;
 /// Puts a rule after the others of its chain, which has the place.
 fn put_rule(
     alloc: Global,
-    answers: Answers,
+    question: Question<'_>,
     chains: &mut Vec<NftChain>,
     parts: RuleParts<'_, '_>,
     place: usize,
 ) -> Result<(), AllocError>
     requires { place < length chains.old.items }
-    ensures { OnOk result (chains.new.items ≡ listed.with_rule_at answers (record {
-      owner = names_of parts.entry.owner;
-      handle = parts.entry.handle;
-      statements = map value_view parts.entry.statements.now;
-    }) chains.old.items place) }
+    ensures { OnOk result
+        (chains.new.items ≡ listed.with_rule_at (question_of question.entry) (record {
+          owner = names_of parts.entry.owner;
+          handle = parts.entry.handle;
+          statements = map value_view parts.entry.statements.now;
+        }) chains.old.items place) }
 {
-    match read_statements(alloc, chains, parts.owner, parts.statements) {
+    let answers = question.asked.answers;
+    let known = Known {
+        question,
+        chains,
+        owner: parts.owner,
+    };
+    match read_statements(alloc, known, parts.statements) {
         Ok(reading) => chains[place].add_rule(alloc, answers, parts.handle, &reading),
         Err(RuleStop::Unsaid(kind)) => chains[place].add_unread(alloc, parts.handle, kind),
         Err(RuleStop::OutOfMemory) => Err(AllocError),
@@ -45,20 +54,20 @@ fn put_rule(
 /// A rule of a family, whose chain stands before it.
 fn add_rule(
     alloc: Global,
-    answers: Answers,
+    question: Question<'_>,
     chains: &mut Vec<NftChain>,
     family: &str,
     said: &Value<'_>,
 ) -> Result<(), Stop>
-    ensures ok { OnOk result (listed.with_rule answers chains.old.items family.now
-        (value_view said.now) ≡ Ok chains.new.items) }
-    ensures err { IfErr result (Refuses (listed.with_rule answers chains.old.items family.now
-        (value_view said.now))) }
+    ensures ok { OnOk result (listed.with_rule (question_of question.entry)
+        chains.old.items family.now (value_view said.now) ≡ Ok chains.new.items) }
+    ensures err { IfErr result (Refuses (listed.with_rule (question_of question.entry)
+        chains.old.items family.now (value_view said.now))) }
 {
     match rule_parts(family, said) {
         Ok(parts) => match place_of(chains, parts.owner, false) {
             Some(place) => {
-                put_rule(alloc, answers, chains, parts, place)?;
+                put_rule(alloc, question, chains, parts, place)?;
                 Ok(())
             }
             None => Err(Stop::Faulty(ObjectKind::NoChain)),
@@ -83,17 +92,17 @@ fn put_chain(
 /// A chain of a family, which didn't stand before.
 fn add_chain(
     alloc: Global,
-    answers: Answers,
+    question: Question<'_>,
     chains: &mut Vec<NftChain>,
     family: &str,
     said: &Value<'_>,
 ) -> Result<(), Stop>
-    ensures ok { OnOk result (listed.with_chain answers chains.old.items family.now
-        (value_view said.now) ≡ Ok chains.new.items) }
-    ensures err { IfErr result (Refuses (listed.with_chain answers chains.old.items family.now
-        (value_view said.now))) }
+    ensures ok { OnOk result (listed.with_chain (question_of question.entry)
+        chains.old.items family.now (value_view said.now) ≡ Ok chains.new.items) }
+    ensures err { IfErr result (Refuses (listed.with_chain (question_of question.entry)
+        chains.old.items family.now (value_view said.now))) }
 {
-    match chain_parts(answers, family, said) {
+    match chain_parts(question.asked.answers, family, said) {
         Ok(parts) => {
             if place_of(chains, parts.owner, false).is_some() {
                 return Err(Stop::Faulty(ObjectKind::ChainTwice));
@@ -122,14 +131,14 @@ fn is_silent(name: &str) -> bool
 /// A chain. Those of other families have no part.
 fn add_chain_object(
     alloc: Global,
-    answers: Answers,
+    question: Question<'_>,
     chains: &mut Vec<NftChain>,
     said: &Value<'_>,
 ) -> Result<(), Stop>
-    ensures ok { OnOk result (listed.with_chain_object answers chains.old.items
-        (value_view said.now) ≡ Ok chains.new.items) }
-    ensures err { IfErr result (Refuses (listed.with_chain_object answers chains.old.items
-        (value_view said.now))) }
+    ensures ok { OnOk result (listed.with_chain_object (question_of question.entry)
+        chains.old.items (value_view said.now) ≡ Ok chains.new.items) }
+    ensures err { IfErr result (Refuses (listed.with_chain_object (question_of question.entry)
+        chains.old.items (value_view said.now))) }
 {
     let Some(family) = text_in("family", said) else {
         return Err(Stop::Faulty(ObjectKind::NoFamily));
@@ -137,20 +146,20 @@ fn add_chain_object(
     if !is_read(family) {
         return Ok(());
     }
-    add_chain(alloc, answers, chains, family, said)
+    add_chain(alloc, question, chains, family, said)
 }
 
 /// A rule. Those of other families have no part.
 fn add_rule_object(
     alloc: Global,
-    answers: Answers,
+    question: Question<'_>,
     chains: &mut Vec<NftChain>,
     said: &Value<'_>,
 ) -> Result<(), Stop>
-    ensures ok { OnOk result (listed.with_rule_object answers chains.old.items
-        (value_view said.now) ≡ Ok chains.new.items) }
-    ensures err { IfErr result (Refuses (listed.with_rule_object answers chains.old.items
-        (value_view said.now))) }
+    ensures ok { OnOk result (listed.with_rule_object (question_of question.entry)
+        chains.old.items (value_view said.now) ≡ Ok chains.new.items) }
+    ensures err { IfErr result (Refuses (listed.with_rule_object (question_of question.entry)
+        chains.old.items (value_view said.now))) }
 {
     let Some(family) = text_in("family", said) else {
         return Err(Stop::Faulty(ObjectKind::NoFamily));
@@ -158,7 +167,7 @@ fn add_rule_object(
     if !is_read(family) {
         return Ok(());
     }
-    add_rule(alloc, answers, chains, family, said)
+    add_rule(alloc, question, chains, family, said)
 }
 
 /// A table has no flags: one that is dormant has no packets.
@@ -177,19 +186,19 @@ fn table_fault(said: &Value<'_>) -> Result<(), Stop>
 /// An object by its name.
 fn add_named_object(
     alloc: Global,
-    answers: Answers,
+    question: Question<'_>,
     chains: &mut Vec<NftChain>,
     name: &str,
     said: &Value<'_>,
 ) -> Result<(), Stop>
-    ensures ok { OnOk result (listed.with_named_object answers chains.old.items name.now
-        (value_view said.now) ≡ Ok chains.new.items) }
-    ensures err { IfErr result (Refuses (listed.with_named_object answers chains.old.items name.now
-        (value_view said.now))) }
+    ensures ok { OnOk result (listed.with_named_object (question_of question.entry)
+        chains.old.items name.now (value_view said.now) ≡ Ok chains.new.items) }
+    ensures err { IfErr result (Refuses (listed.with_named_object (question_of question.entry)
+        chains.old.items name.now (value_view said.now))) }
 {
     match name {
-        "rule" => add_rule_object(alloc, answers, chains, said),
-        "chain" => add_chain_object(alloc, answers, chains, said),
+        "rule" => add_rule_object(alloc, question, chains, said),
+        "chain" => add_chain_object(alloc, question, chains, said),
         "table" => table_fault(said),
         _ => {
             if is_silent(name) {
@@ -203,17 +212,17 @@ fn add_named_object(
 /// An object, which has one member.
 fn add_object(
     alloc: Global,
-    answers: Answers,
+    question: Question<'_>,
     chains: &mut Vec<NftChain>,
     object: &Value<'_>,
 ) -> Result<(), Stop>
-    ensures ok { OnOk result (listed.with_object answers chains.old.items
-        (value_view object.now) ≡ Ok chains.new.items) }
-    ensures err { IfErr result (Refuses (listed.with_object answers chains.old.items
-        (value_view object.now))) }
+    ensures ok { OnOk result (listed.with_object (question_of question.entry)
+        chains.old.items (value_view object.now) ≡ Ok chains.new.items) }
+    ensures err { IfErr result (Refuses (listed.with_object (question_of question.entry)
+        chains.old.items (value_view object.now))) }
 {
     match only(object) {
-        Some((name, said)) => add_named_object(alloc, answers, chains, name, said),
+        Some((name, said)) => add_named_object(alloc, question, chains, name, said),
         None => Err(Stop::Faulty(ObjectKind::UnknownObject)),
     }
 }
@@ -221,19 +230,20 @@ fn add_object(
 /// The chains of objects, or the first faulty one.
 fn read_objects(
     alloc: Global,
-    answers: Answers,
+    question: Question<'_>,
     objects: &[Value<'_>],
 ) -> Result<Vec<NftChain>, NftFault>
     ensures chains { IfOk result (λ chains.
-        listed.with_objects answers 0 [] (map value_view objects.now) ≡ Ok chains.items) }
+        listed.with_objects (question_of question.entry) 0 [] (map value_view objects.now)
+        ≡ Ok chains.items) }
     ensures fault { IfErr result (IsToldOf
-        (listed.with_objects answers 0 [] (map value_view objects.now))) }
+        (listed.with_objects (question_of question.entry) 0 [] (map value_view objects.now))) }
 {
     let mut chains = Vec::new(alloc);
     let mut number = 0;
     for object in objects {
         number += 1;
-        match add_object(alloc, answers, &mut chains, object) {
+        match add_object(alloc, question, &mut chains, object) {
             Ok(()) => {}
             Err(stop) => return Err(fault_of(number, stop)),
         }
@@ -258,7 +268,7 @@ fn whole_fault(kind: ObjectKind) -> NftFault
     NftFault::Object(ObjectFault { object: 0, kind })
 }
 
-/// The objects of a listed.
+/// The objects of a ruleset.
 fn objects_of<'v, 'a>(value: &'v Value<'a>) -> Option<&'v [Value<'a>]>
     ensures { MatchOption result
         (listed.objects_of (value_view value.now) ≡ None)
@@ -271,15 +281,21 @@ fn objects_of<'v, 'a>(value: &'v Value<'a>) -> Option<&'v [Value<'a>]>
 }
 
 /// The chains of a value.
-fn read_value(alloc: Global, answers: Answers, value: &Value<'_>) -> Result<Vec<NftChain>, NftFault>
+fn read_value(
+    alloc: Global,
+    question: Question<'_>,
+    value: &Value<'_>,
+) -> Result<Vec<NftChain>, NftFault>
     ensures chains { IfOk result (λ chains.
-        listed.chains_of_objects answers (listed.objects_of (value_view value.now))
+        listed.chains_of_objects (question_of question.entry)
+        (listed.objects_of (value_view value.now))
         ≡ Ok chains.items) }
     ensures fault { IfErr result (IsToldOf
-        (listed.chains_of_objects answers (listed.objects_of (value_view value.now)))) }
+        (listed.chains_of_objects (question_of question.entry)
+        (listed.objects_of (value_view value.now)))) }
 {
     match objects_of(value) {
-        Some(objects) => read_objects(alloc, answers, objects),
+        Some(objects) => read_objects(alloc, question, objects),
         None => Err(whole_fault(ObjectKind::NoList)),
     }
 }
@@ -294,22 +310,25 @@ fn read_value(alloc: Global, answers: Answers, value: &Value<'_>) -> Result<Vec<
 /// A rule that no rule file says leads to no chain, so that `list_chains` refuses each chain whose
 /// packets may come to it; the chain's faults have its cause.
 ///
+/// `assumed` says what is assumed of packets beside their bytes, as `in=eth0,state=new`.
+///
 /// It takes memory in proportion to the file.
 pub fn read_ruleset(
     alloc: Global,
     bytes: &[u8],
-    answers: Answers,
+    asked: Asked,
+    assumed: &[u8],
 ) -> Result<Vec<NftChain>, NftFault>
     ensures text { IfOk result (λ _. IsUtf8 bytes.now) }
     ensures chains { IfOk result
-        (λ chains. listed.chains_of answers bytes.now ≡ Ok chains.items) }
+        (λ chains. listed.chains_of asked assumed.now bytes.now ≡ Ok chains.items) }
     ensures fault { IsUtf8 bytes.now → IfErr result
-        (IsToldOf (listed.chains_of answers bytes.now)) }
+        (IsToldOf (listed.chains_of asked assumed.now bytes.now)) }
 {
     if is_too_long(bytes) {
         return Err(whole_fault(ObjectKind::FileTooLong));
     }
-    read_text(alloc, bytes, answers)
+    read_text(alloc, bytes, Question { asked, assumed })
 }
 
 /// Whether a ruleset has more bytes than it may have.
@@ -320,16 +339,17 @@ fn is_too_long(bytes: &[u8]) -> bool
 }
 
 /// The chains of a text of JSON.
-fn read_text(alloc: Global, bytes: &[u8], answers: Answers) -> Result<Vec<NftChain>, NftFault>
+fn read_text(alloc: Global, bytes: &[u8], question: Question<'_>) -> Result<Vec<NftChain>, NftFault>
     ensures text { IfOk result (λ _. IsUtf8 bytes.now) }
     ensures chains { IfOk result (λ chains.
-        listed.chains_of_document answers (document bytes.now) ≡ Ok chains.items) }
+        listed.chains_of_document (question_of question.entry) (document bytes.now)
+        ≡ Ok chains.items) }
     ensures fault { IsUtf8 bytes.now → IfErr result
-        (IsToldOf (listed.chains_of_document answers (document bytes.now))) }
+        (IsToldOf (listed.chains_of_document (question_of question.entry) (document bytes.now))) }
 {
     let mut scratch = Scratch::new(alloc);
     match Value::from_slice(alloc, bytes, &mut scratch) {
-        Ok(value) => read_value(alloc, answers, &value),
+        Ok(value) => read_value(alloc, question, &value),
         Err(Error::OutOfMemory) => Err(NftFault::OutOfMemory),
         Err(Error::Invalid | Error::TooLong | Error::DuplicateKey) => {
             Err(whole_fault(ObjectKind::NotJson))

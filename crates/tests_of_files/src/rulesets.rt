@@ -2,7 +2,7 @@
 
 use field_defs::ip4_layout;
 use list_chains::{ChainsFault, rules_of_chains};
-use nft_reader::{Answers, NftFault, ObjectKind, RuleKind, chains_alone, read_ruleset};
+use nft_reader::{Answers, Asked, NftFault, ObjectKind, RuleKind, chains_alone, read_ruleset};
 use rule_set::{RuleSet, plain_verdict};
 use std::alloc::Global;
 use std::process::Abort;
@@ -81,7 +81,7 @@ fn rules_at(
     answers: Answers,
     place: usize,
 ) -> Result<RuleSet, Fail> {
-    let saved = read_ruleset(alloc, text.as_bytes(), answers)
+    let saved = read_ruleset(alloc, text.as_bytes(), Asked { answers }, b"")
         .ok()
         .expect(rt, "a lawful ruleset");
     assert!(rt; place < saved.len());
@@ -138,7 +138,8 @@ fn verdicts_are_told(rt: HostRuntime) -> Result<(), Fail> {
 #[test]
 fn a_state_is_refused_where_packets_come_to_it(rt: HostRuntime) -> Result<(), Fail> {
     let alloc = rt.alloc();
-    let saved = read_ruleset(alloc, SERVER.as_bytes(), Answers::Handle)
+    let answers = Answers::Handle;
+    let saved = read_ruleset(alloc, SERVER.as_bytes(), Asked { answers }, b"")
         .ok()
         .expect(&rt, "a lawful ruleset");
     assert!(rt; saved.len() == 3);
@@ -156,7 +157,8 @@ fn a_state_is_refused_where_packets_come_to_it(rt: HostRuntime) -> Result<(), Fa
 #[test]
 fn the_first_faulty_object_is_told(rt: HostRuntime) -> Result<(), Fail> {
     let text = "{\"nftables\": [{\"metainfo\": {}}, {\"add\": {}}]}";
-    let told = read_ruleset(rt.alloc(), text.as_bytes(), Answers::Handle)
+    let answers = Answers::Handle;
+    let told = read_ruleset(rt.alloc(), text.as_bytes(), Asked { answers }, b"")
         .err()
         .expect(&rt, "a refusal");
     let is_second = match told {
