@@ -1,6 +1,6 @@
 -- A list of rules of one family as a program writes it, line by line. What it may say beside the
 -- rules stands in comments, which a reader of rule files skips.
-use Rattle.std.specs.Prelude.{ℕ, ◌<◌, ◌^◌, ◌==◌, ◌||◌, if◌then◌else◌, List, [], ◌∷◌, ◌++◌, codes}
+use Rattle.std.specs.Prelude.{ℕ, ◌<◌, ◌^◌, ◌==◌, ◌||◌, if◌then◌else◌, List, [], ◌∷◌, ◌++◌, codes, decimal}
 use Rattle.std.specs.Prelude.{flat_map, map}
 use Rattle.field_defs.specs.declared.field.Family.{Family}
 use Rattle.field_defs.specs.declared.field.Family.TheVariants as family
@@ -16,9 +16,14 @@ pub data LineView : Type 0 where
   Comment : (text : List ℕ) → LineView
   Rule : (rule : RuleView) → LineView
 
+-- a text and a number after it, in decimal
+abbrev pub numbered : List ℕ → ℕ → List ℕ
+numbered text number = text ++ decimal number
+
 -- what a line of the code says
 abbrev pub line_view : ListLine → LineView
 line_view (lines.Comment text) = Comment text.now
+line_view (lines.Numbered text number) = Comment (numbered text.now number)
 line_view (lines.Rule rule) = Rule rule.now
 
 -- and what the lines of a list say

@@ -5,7 +5,7 @@ use Rattle.field_defs.specs.declared.field.Family.TheVariants.{Ip4}
 use Rattle.field_defs.specs.declared.field.FieldValue.TheVariants.{Mask, Range, Bitmask}
 use Rattle.rule_set.specs.Rule.{RuleView}
 use Rattle.classbench_reader.specs.RuleFile.{rule_file_of}
-use Rattle.printed_lists.specs.Listed.{Comment, Rule, comment_text, list_text, lists_of}
+use Rattle.printed_lists.specs.Listed.{Comment, Rule, comment_text, list_text, lists_of, numbered}
 
 -- UDP to port 53 of one host
 abbrev names : RuleView
@@ -36,3 +36,8 @@ ends = refl
 -- a comment without text
 empty : comment_text [] ≡ codes "# \n"
 empty = refl
+
+-- a number after it
+with_number : comment_text (numbered (codes "handle ") 18) ≡ codes "# handle 18\n"
+unfolding digits
+with_number = refl

@@ -1,15 +1,17 @@
 //! Lines of a list in, their text out.
 
-ghost use Rattle.std.specs.Prelude.{◌≡◌, ◌++◌, All, OnOk, map};
+ghost use Rattle.std.specs.Prelude.{◌≡◌, [], ◌∷◌, ◌++◌, All, OnOk, codes, map};
+ghost use Rattle.text_scan.specs.Parts.{line_feed};
 ghost use Rattle.classbench_reader.specs.Print.{IsPrintable, rule_text};
 ghost use Rattle.printed_lists.specs.Laws.{ReadsBack};
 ghost use Rattle.printed_lists.specs.Listed.{FitsLineTag, FitsTag, IsPrintableLine};
 ghost use Rattle.printed_lists.specs.Listed.{comment_byte, comment_text, line_view, line_views};
-ghost use Rattle.printed_lists.specs.Listed.{list_text, written_line};
+ghost use Rattle.printed_lists.specs.Listed.{list_text, numbered, written_line};
 
 use crate::laws::printed_lists_are_files;
 use classbench_reader::print_rule;
 use field_defs::Family;
+use itoa::Buffer;
 use rule_set::StoredRule;
 use std::alloc::{AllocError, Global};
 
@@ -21,16 +23,18 @@ const END_IN_COMMENT: u8 = b'?';
 pub enum ListLine<'a> {
     /// A comment with a text, as the line that a rule was made of.
     Comment(&'a [u8]),
+    /// A comment with a text and a number after it, as what a rule was made of is called.
+    Numbered(&'a [u8], u32),
     /// A rule.
     Rule(&'a StoredRule),
 }
 
 /// Writes the lines of a list after a text, each ended by LF.
 ///
-/// A comment is `# ` and its text, in which LF and CR become `?` and each other byte stays. A rule
-/// has the line of [`print_rule`]: all are of one family, and a line can say each of them. What is
-/// written is a rule file of these rules, if they are at most 262,144 and it has at most 16,777,216
-/// bytes.
+/// A comment is `# ` and its text, in which LF and CR become `?` and each other byte stays. A number
+/// after it is written in decimal. A rule has the line of [`print_rule`]: all are of one family, and
+/// a line can say each of them. What is written is a rule file of these rules, if they are at most
+/// 262,144 and it has at most 16,777,216 bytes.
 ///
 /// It takes the memory of the text, and of one line more meanwhile. If that isn't there, some of
 /// the lines may have been written.
@@ -66,6 +70,7 @@ fn put_line(
 {
     match line {
         ListLine::Comment(comment) => put_comment(text, comment),
+        ListLine::Numbered(comment, number) => put_numbered(text, comment, *number),
         ListLine::Rule(rule) => {
             fits_tag(rule);
             put_rule(alloc, text, family, rule)
@@ -77,8 +82,34 @@ fn put_line(
 fn put_comment(text: &mut Vec<u8>, comment: &[u8]) -> Result<(), AllocError>
     ensures { OnOk result (text.new.items ≡ text.old.items ++ comment_text comment.now) }
 {
-    text.extend_from_slice(b"# ")?;
+    begin_comment(text)?;
     put_bytes(text, comment)?;
+    end_line(text)
+}
+
+/// Writes a comment with a number after a text.
+fn put_numbered(text: &mut Vec<u8>, comment: &[u8], number: u32) -> Result<(), AllocError>
+    ensures { OnOk result
+        (text.new.items ≡ text.old.items ++ comment_text (numbered comment.now number)) }
+{
+    let mut digits = Buffer::new();
+    begin_comment(text)?;
+    put_bytes(text, comment)?;
+    put_bytes(text, digits.format(number).as_bytes())?;
+    end_line(text)
+}
+
+/// Begins a comment after a text.
+fn begin_comment(text: &mut Vec<u8>) -> Result<(), AllocError>
+    ensures { OnOk result (text.new.items ≡ text.old.items ++ codes "# ") }
+{
+    text.extend_from_slice(b"# ")
+}
+
+/// Ends a line after a text.
+fn end_line(text: &mut Vec<u8>) -> Result<(), AllocError>
+    ensures { OnOk result (text.new.items ≡ text.old.items ++ line_feed ∷ []) }
+{
     text.extend_from_slice(b"\n")
 }
 
