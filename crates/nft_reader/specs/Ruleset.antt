@@ -5,7 +5,7 @@
 use Rattle.std.specs.Prelude.{ℕ, ◌+◌, ◌-◌, ◌^◌, ◌==◌, Bool, false, ◌&&◌, ◌||◌, nat_lt, is_some}
 use Rattle.std.specs.Prelude.{if◌then◌else◌, codes, slice_set, slice_index_or, length}
 use Rattle.std.specs.Prelude.{List, [], ◌∷◌, ◌++◌, Option, Some, None, option_and_then, Result, Ok, Err}
-use Rattle.std.specs.Str.{bytes_eq}
+use Rattle.std.specs.Str.{bytes_eq, is_utf8}
 use Rattle.json.specs.Json.{Json, document}
 use Rattle.json.specs.Find.{get}
 use Rattle.list_chains.specs.declared.span.Span.{Span}
@@ -330,8 +330,14 @@ abbrev pub chains_of_document : Question → Option Json → Result (List Listed
 chains_of_document question None = Err (whole_fault object.NotJson)
 chains_of_document question (Some value) = chains_of_objects question (objects_of value)
 
+-- the chains of a text, which is UTF-8
+abbrev pub chains_of_text : Question → List ℕ → Result (List ListedChain) ObjectFault
+chains_of_text question bytes =
+    if is_utf8 bytes then chains_of_document question (document bytes)
+    else Err (whole_fault object.NotJson)
+
 -- the chains of a file, under what is assumed
 abbrev pub chains_of : Asked → List ℕ → List ℕ → Result (List ListedChain) ObjectFault
 chains_of asked assumed bytes =
     if nat_lt max_ruleset (length bytes) then Err (whole_fault object.FileTooLong)
-    else chains_of_document (record { asked = asked; assumed = assumed }) (document bytes)
+    else chains_of_text (record { asked = asked; assumed = assumed }) bytes

@@ -2,7 +2,9 @@
 -- the faults of others.
 use Rattle.std.specs.Prelude.{◌≡◌, ℕ, ◌++◌, List, [], ◌∷◌, codes, Result, Ok, Err, Some, None, refl}
 use Rattle.std.specs.Fmt.{digits}
+use Rattle.std.specs.Str.{chars, is_utf8}
 use Rattle.json.proofs.OnLiterals.{json_on_literals}
+use Rattle.json.specs.Json.{document}
 use Rattle.list_chains.specs.declared.chain.Target.{Target}
 use Rattle.list_chains.specs.declared.chain.Target.TheVariants.{Decide, Return, Jump}
 use Rattle.list_chains.specs.declared.span.Span.{Span}
@@ -15,7 +17,7 @@ use Rattle.nft_reader.specs.declared.fault.RuleFault.{RuleFault}
 use Rattle.nft_reader.specs.declared.fault.RuleKind.TheVariants as kind
 use Rattle.nft_reader.specs.Chains.{ListedChain, Names}
 use Rattle.nft_reader.specs.Readings.{with_statements}
-use Rattle.nft_reader.specs.Ruleset.{chains_of, nowhere, with_objects}
+use Rattle.nft_reader.specs.Ruleset.{chains_of, chains_of_document, nowhere, with_objects}
 use Rattle.nft_reader.specs.Values.{spans_after}
 
 -- the numbers from one to another
@@ -84,9 +86,13 @@ with_rules rules faults =
 abbrev handles : Asked
 handles = record { answers = answers.Handle }
 
+-- what a text says that is UTF-8
+abbrev read : List ℕ → Result (List ListedChain) ObjectFault
+read bytes = chains_of_document (record { asked = handles; assumed = [] }) (document bytes)
+
 -- what a rule of the chain in says
 abbrev said : List ℕ → Result (List ListedChain) ObjectFault
-said statements = chains_of handles [] (declarations ++ rule_of statements)
+said statements = read (declarations ++ rule_of statements)
 
 -- ip saddr 10.0.0.1 accept
 an_address : said
@@ -179,7 +185,7 @@ unfolding json_on_literals with_statements with_objects spans_after digits
 a_set_of_the_ruleset = refl
 
 -- an object that isn't known is refused, by its number
-a_command : chains_of handles [] (codes "{\"nftables\": [{\"metainfo\": {}}, {\"add\": {}}]}")
+a_command : read (codes "{\"nftables\": [{\"metainfo\": {}}, {\"add\": {}}]}")
     ≡ Err (record { object = 2; kind = object.UnknownObject })
 unfolding json_on_literals with_objects
 a_command = refl
@@ -187,5 +193,11 @@ a_command = refl
 -- what nft lists without -j is no JSON
 no_json : chains_of handles [] (codes "table inet f {")
     ≡ Err (record { object = 0; kind = object.NotJson })
-unfolding json_on_literals
+unfolding json_on_literals is_utf8 chars
 no_json = refl
+
+-- so is what isn't UTF-8
+no_text : chains_of handles [] (34 ∷ 255 ∷ 34 ∷ [])
+    ≡ Err (record { object = 0; kind = object.NotJson })
+unfolding json_on_literals is_utf8 chars
+no_text = refl

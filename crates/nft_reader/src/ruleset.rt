@@ -2,7 +2,7 @@
 
 ghost use Rattle.std.specs.Prelude.{◌≡◌, ◌<◌, [], length, map, nat_lt, true, false, IfErr, IfOk};
 ghost use Rattle.std.specs.Prelude.{OnOk, MatchResult, MatchOption, Some, None, Ok, Err};
-ghost use Rattle.std.specs.Str.{IsUtf8};
+ghost use Rattle.std.specs.Str.{IsUtf8, is_utf8};
 ghost use Rattle.json.specs.Json.{document};
 ghost use Rattle.json.specs.Value.{value_view};
 ghost use Rattle.nft_reader.specs.Chains.{names_of};
@@ -319,11 +319,9 @@ pub fn read_ruleset(
     asked: Asked,
     assumed: &[u8],
 ) -> Result<Vec<NftChain>, NftFault>
-    ensures text { IfOk result (λ _. IsUtf8 bytes.now) }
     ensures chains { IfOk result
         (λ chains. listed.chains_of asked assumed.now bytes.now ≡ Ok chains.items) }
-    ensures fault { IsUtf8 bytes.now → IfErr result
-        (IsToldOf (listed.chains_of asked assumed.now bytes.now)) }
+    ensures fault { IfErr result (IsToldOf (listed.chains_of asked assumed.now bytes.now)) }
 {
     if is_too_long(bytes) {
         return Err(whole_fault(ObjectKind::FileTooLong));
@@ -340,19 +338,17 @@ fn is_too_long(bytes: &[u8]) -> bool
 
 /// The chains of a text of JSON.
 fn read_text(alloc: Global, bytes: &[u8], question: Question<'_>) -> Result<Vec<NftChain>, NftFault>
-    ensures text { IfOk result (λ _. IsUtf8 bytes.now) }
-    ensures chains { IfOk result (λ chains.
-        listed.chains_of_document (question_of question.entry) (document bytes.now)
+    ensures chains { IfOk result
+        (λ chains. listed.chains_of_text (question_of question.entry) bytes.now
         ≡ Ok chains.items) }
-    ensures fault { IsUtf8 bytes.now → IfErr result
-        (IsToldOf (listed.chains_of_document (question_of question.entry) (document bytes.now))) }
+    ensures fault { IfErr result
+        (IsToldOf (listed.chains_of_text (question_of question.entry) bytes.now)) }
 {
     let mut scratch = Scratch::new(alloc);
     match Value::from_slice(alloc, bytes, &mut scratch) {
         Ok(value) => read_value(alloc, question, &value),
         Err(Error::OutOfMemory) => Err(NftFault::OutOfMemory),
-        Err(Error::Invalid | Error::TooLong | Error::DuplicateKey) => {
-            Err(whole_fault(ObjectKind::NotJson))
-        }
+        Err(Error::Invalid) => Err(whole_fault(ObjectKind::NotJson)),
+        Err(Error::TooLong | Error::DuplicateKey) => unreachable!(),
     }
 }
