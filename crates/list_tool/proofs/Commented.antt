@@ -7,16 +7,17 @@ use Rattle.rule_set.specs.Rule.{RuleView}
 use Rattle.rule_set.specs.Fault.{rule_fault}
 use Rattle.classbench_reader.specs.Print.{IsPrintable, fields_of, has_prefixes}
 use Rattle.printed_lists.specs.Listed.{IsPrintableLine, rules_of}
+use Rattle.list_tool.specs.declared.words.Form.{Form}
 use Rattle.list_tool.specs.Printed.{commented, first_odd, number_at, number_before}
 
 -- comments are no rules
-pub rules_kept : (lines : List (List ℕ)) (by_line : List RuleView) (place : ℕ) (rules : List RuleView) →
-    rules_of (commented lines by_line place rules) ≡ rules
-rules_kept lines by_line place [] = refl
-rules_kept lines by_line place (rule ∷ rules) =
+pub rules_kept : (form : Form) (lines : List (List ℕ)) (by_line : List RuleView) (place : ℕ) (rules : List RuleView) →
+    rules_of (commented form lines by_line place rules) ≡ rules
+rules_kept form lines by_line place [] = refl
+rules_kept form lines by_line place (rule ∷ rules) =
     elim (cases_Bool (number_at by_line place == number_before by_line place)) [
-      | inl e ↦ rw e (ap (λ (rs : List RuleView). rule ∷ rs) (rules_kept lines by_line (place + 1) rules))
-      | inr e ↦ rw e (ap (λ (rs : List RuleView). rule ∷ rs) (rules_kept lines by_line (place + 1) rules))
+      | inl e ↦ rw e (ap (λ (rs : List RuleView). rule ∷ rs) (rules_kept form lines by_line (place + 1) rules))
+      | inr e ↦ rw e (ap (λ (rs : List RuleView). rule ∷ rs) (rules_kept form lines by_line (place + 1) rules))
     ]
 
 -- a rule is lawful for the layout of its family
@@ -24,14 +25,14 @@ abbrev pub IsLawfulFor : Family → RuleView → Type 0
 IsLawfulFor its rule = rule_fault (fields_of its) rule.tag rule.fields ≡ None
 
 -- lawful rules whose addresses have prefixes can be said
-pub printable : (its : Family) (lines : List (List ℕ)) (by_line : List RuleView) (place : ℕ) (rules : List RuleView) →
+pub printable : (its : Family) (form : Form) (lines : List (List ℕ)) (by_line : List RuleView) (place : ℕ) (rules : List RuleView) →
     AllByRecursion (IsLawfulFor its) rules → first_odd its by_line place rules ≡ None →
-    AllByRecursion (IsPrintableLine its) (commented lines by_line place rules)
-printable its lines by_line place [] lawful none = tt
-printable its lines by_line place (rule ∷ rules) lawful none =
+    AllByRecursion (IsPrintableLine its) (commented form lines by_line place rules)
+printable its form lines by_line place [] lawful none = tt
+printable its form lines by_line place (rule ∷ rules) lawful none =
     elim (cases_Bool (has_prefixes its rule.fields)) [
       | inl has ↦
-          let rest = printable its lines by_line (place + 1) rules lawful.1 (rw has at none) in
+          let rest = printable its form lines by_line (place + 1) rules lawful.1 (rw has at none) in
           let this : IsPrintable its rule = record { lawful = lawful.0; prefixes = has } in
           elim (cases_Bool (number_at by_line place == number_before by_line place)) [
             | inl e ↦ rw e (this, rest)

@@ -5,6 +5,7 @@ use Rattle.rule_set.specs.Rule.{RuleView}
 use Rattle.text_scan.specs.Parts.{lines_of}
 use Rattle.printed_lists.specs.Listed.{LineView}
 use Rattle.list_lemmas.proofs.Loops.{Writes, writes_more}
+use Rattle.list_tool.specs.declared.words.Form.{Form}
 use Rattle.list_tool.specs.Printed.{after_comment, comment_of, commented, number_at, number_before}
 
 module _ {X : Type 0} (f : X → List ℕ) (items : List X) (left : List ℕ) (all : List (List ℕ))
@@ -23,13 +24,13 @@ module _ {X : Type 0} (f : X → List ℕ) (items : List X) (left : List ℕ) (a
   all_lines none = sym (append-nil (map f items)) ∙ ap (λ xs. map f items ++ xs) (sym none) ∙ so_far
 
 -- one rule more was put, after its comment
-pub more_rules : (lines : List (List ℕ)) (by_line rules : List RuleView) (place : ℕ) (old new all : List LineView)
-    (rule other : RuleView) → Writes (commented lines by_line place) rules place old all → place < length rules →
+pub more_rules : (form : Form) (lines : List (List ℕ)) (by_line rules : List RuleView) (place : ℕ) (old new all : List LineView)
+    (rule other : RuleView) → Writes (commented form lines by_line place) rules place old all → place < length rules →
     rule ≡ get_or rules place other →
     new ≡ old
-    ++ after_comment (comment_of lines (number_before by_line place) (number_at by_line place)) rule →
-    Writes (commented lines by_line (place + 1)) rules (place + 1) new all
-more_rules lines by_line rules place old new all rule other so_far below is put =
+    ++ after_comment (comment_of form lines (number_before by_line place) (number_at by_line place)) rule →
+    Writes (commented form lines by_line (place + 1)) rules (place + 1) new all
+more_rules form lines by_line rules place old new all rule other so_far below is put =
     writes_more other
-    (after_comment (comment_of lines (number_before by_line place) (number_at by_line place)) rule)
+    (after_comment (comment_of form lines (number_before by_line place) (number_at by_line place)) rule)
     so_far below is put refl

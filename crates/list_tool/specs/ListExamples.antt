@@ -7,6 +7,12 @@ use Rattle.iptables_reader.specs.declared.table.Answers.{Answers}
 use Rattle.iptables_reader.specs.declared.table.Answers.TheVariants as answers
 use Rattle.iptables_reader.specs.Table.{with_lines}
 use Rattle.iptables_reader.specs.Tables.{match_table, protocol_table, target_table}
+use Rattle.list_chains.specs.declared.chain.Target.TheVariants as target
+use Rattle.list_chains.specs.declared.fault.ChainsFault.TheVariants as fault
+use Rattle.list_chains.specs.declared.span.Span.{Span}
+use Rattle.list_chains.specs.Chains.{ListRule}
+use Rattle.nft_reader.specs.declared.fault.ObjectKind.TheVariants as object
+use Rattle.nft_reader.specs.declared.fault.RuleKind.TheVariants as rule
 use Rattle.cisco_reader.specs.declared.fault.LineKind.TheVariants as entry
 use Rattle.cisco_reader.specs.Entry.{log_words}
 use Rattle.cisco_reader.specs.Lists as cisco
@@ -15,9 +21,11 @@ use Rattle.cisco_reader.specs.Names as names
 use Rattle.list_tool.specs.declared.status.ListStatus.{ListStatus}
 use Rattle.list_tool.specs.declared.status.ListStatus.TheVariants.{Usage, Refused, ReadFault}
 use Rattle.list_tool.specs.declared.status.ListKind.TheVariants.{Line, CiscoLine, NoChain, NoPolicy, Loop}
+use Rattle.list_tool.specs.declared.status.ListKind.TheVariants.{NoTarget, Object, Rule}
+use Rattle.list_tool.specs.declared.status.ListPlace.TheVariants as placed
 use Rattle.list_tool.specs.declared.words.Form.{Form}
-use Rattle.list_tool.specs.declared.words.Form.TheVariants.{Iptables, Cisco}
-use Rattle.list_tool.specs.Listing.{at_line}
+use Rattle.list_tool.specs.declared.words.Form.TheVariants.{Iptables, Cisco, Nft}
+use Rattle.list_tool.specs.Listing.{WayView, at_line, at_object, at_place, unturned}
 use Rattle.list_tool.specs.Message.{message}
 use Rattle.list_tool.specs.RunsLists.{ListOutcome, outcome}
 use Rattle.list_tool.specs.Words.{Request, fault_at}
@@ -84,6 +92,33 @@ unfolding digits cisco.with_lines is_among number_named names.protocol_table com
     log_words cisco.entry_words
 a_faulty_entry = refl
 
+-- ---- rules of a ruleset that no rule file says
+
+-- a rule that leads to no chain, for all packets; it has the number of its handle
+abbrev nowhere : ℕ → ListRule (List Span)
+nowhere handle = record { userdata = handle; inside = []; but = []; target = target.Jump 9 }
+
+-- two chains with the rules 5 and 5 of two tables, of which the second has a rule 6 too
+ruleset_way : WayView
+ruleset_way = record {
+  chains = (nowhere 5 ∷ []) ∷ (nowhere 5 ∷ nowhere 6 ∷ []) ∷ [];
+  faults = (record { handle = 5; kind = rule.Rate } ∷ [])
+      ∷ (record { handle = 5; kind = rule.CantSay } ∷ []) ∷ [];
+  start = record { place = 1; policy = 2 };
+}
+
+-- the cause is that of the rule's own chain
+of_the_rule : unturned Nft ruleset_way (fault.NoChain (record { chain = 1; rule = 0 }))
+    ≡ at_place (placed.Handle 5) (Rule rule.CantSay)
+unfolding ruleset_way
+of_the_rule = refl
+
+-- without a cause the target isn't there
+of_no_cause : unturned Nft ruleset_way (fault.NoChain (record { chain = 1; rule = 1 }))
+    ≡ at_place (placed.Handle 6) NoTarget
+unfolding ruleset_way
+of_no_cause = refl
+
 -- ---- lines on standard error
 
 a_message : message (Refused (at_line 5 Loop)) ≡ codes "aclc-lists: list: line 5: loop\n"
@@ -94,6 +129,16 @@ of_an_entry : message (Refused (at_line 1 (CiscoLine entry.Compares)))
     ≡ codes "aclc-lists: list: line 1: matches what no rule file says\n"
 unfolding digits
 of_an_entry = refl
+
+of_a_rule : message (Refused (at_place (placed.Handle 18) (Rule rule.CantSay)))
+    ≡ codes "aclc-lists: list: handle 18: matches what no rule file says\n"
+unfolding digits
+of_a_rule = refl
+
+of_an_object : message (Refused (at_object 2 (Object object.UnknownObject)))
+    ≡ codes "aclc-lists: list: object 2: unknown object\n"
+unfolding digits
+of_an_object = refl
 
 of_words : message (Usage (fault_at 1 UnknownCommand))
     ≡ codes "aclc-lists: usage: word 1: unknown command\n"

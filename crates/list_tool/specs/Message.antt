@@ -5,8 +5,16 @@ use Rattle.iptables_reader.specs.declared.fault.LineKind.{LineKind}
 use Rattle.iptables_reader.specs.declared.fault.LineKind.TheVariants as line
 use Rattle.cisco_reader.specs.declared.fault.LineKind as cisco
 use Rattle.cisco_reader.specs.declared.fault.LineKind.TheVariants as entry
+use Rattle.nft_reader.specs.declared.fault.ObjectKind.{ObjectKind}
+use Rattle.nft_reader.specs.declared.fault.ObjectKind.TheVariants as object
+use Rattle.nft_reader.specs.declared.fault.RuleKind.{RuleKind}
+use Rattle.nft_reader.specs.declared.fault.RuleKind.TheVariants as rule
+use Rattle.nft_reader.specs.declared.fault.StartFault.{StartFault}
+use Rattle.nft_reader.specs.declared.fault.StartFault.TheVariants as start
 use Rattle.list_tool.specs.declared.status.ListKind.{ListKind}
 use Rattle.list_tool.specs.declared.status.ListKind.TheVariants as kind
+use Rattle.list_tool.specs.declared.status.ListPlace.{ListPlace}
+use Rattle.list_tool.specs.declared.status.ListPlace.TheVariants as placed
 use Rattle.list_tool.specs.declared.status.ListStatus.{ListStatus}
 use Rattle.list_tool.specs.declared.status.ListStatus.TheVariants.{Done, Usage, Refused, ReadFault}
 use Rattle.list_tool.specs.declared.status.ListStatus.TheVariants.{WriteFault, OutOfMemory}
@@ -79,10 +87,41 @@ cisco_text entry.Compares = codes "matches what no rule file says"
 cisco_text entry.IcmpType = codes "type of ICMP"
 cisco_text entry.UnknownWord = codes "unknown word"
 
+-- of an object of a ruleset
+abbrev pub object_text : ObjectKind → List ℕ
+object_text object.FileTooLong = codes "file too long"
+object_text object.NotJson = codes "no JSON in UTF-8"
+object_text object.NoList = codes "no ruleset of nft"
+object_text object.UnknownObject = codes "unknown object"
+object_text object.NoFamily = codes "no family"
+object_text object.BadTable = codes "table with flags"
+object_text object.BadChain = codes "bad chain"
+object_text object.BadPolicy = codes "bad policy"
+object_text object.ChainTwice = codes "chain declared twice"
+object_text object.BadRule = codes "bad rule"
+object_text object.NoChain = codes "chain not declared"
+
+-- of a rule of a ruleset
+abbrev pub rule_text : RuleKind → List ℕ
+rule_text rule.BadStatement = codes "bad statement"
+rule_text rule.UnknownStatement = codes "unknown statement"
+rule_text rule.AfterVerdict = codes "statement after the verdict"
+rule_text rule.NoTarget = codes "target not there"
+rule_text rule.Rate = codes "depends on a rate"
+rule_text rule.CantSay = codes "matches what no rule file says"
+
+-- and of a name of base chains
+abbrev pub start_text : StartFault → List ℕ
+start_text start.NoStart = codes "no base chain of this name"
+start_text start.ManyStarts = codes "base chains of this name in many tables"
+
 -- what is told of a list
 abbrev pub list_text : ListKind → List ℕ
 list_text (kind.Line fault) = table_text fault
 list_text (kind.CiscoLine fault) = cisco_text fault
+list_text (kind.Object fault) = object_text fault
+list_text (kind.Rule fault) = rule_text fault
+list_text (kind.BaseChain fault) = start_text fault
 list_text kind.NoChain = codes "no such chain"
 list_text kind.NoPolicy = codes "chain without a policy"
 list_text kind.NoTarget = codes "target not there"
@@ -91,6 +130,17 @@ list_text kind.TooManyRules = codes "too many rules"
 list_text kind.TooManySteps = codes "too many ways through the chains"
 list_text kind.NoPrefix = codes "addresses without a prefix"
 list_text kind.TextTooLong = codes "rule file too long"
+
+-- what a place is called, and its number
+abbrev pub place_text : ListPlace → List ℕ
+place_text (placed.Line number) = codes "list: line "
+place_text (placed.Object number) = codes "list: object "
+place_text (placed.Handle number) = codes "list: handle "
+
+abbrev pub place_number : ListPlace → ℕ
+place_number (placed.Line number) = number
+place_number (placed.Object number) = number
+place_number (placed.Handle number) = number
 
 -- what stands after the program's name: a subject, a number and a kind
 abbrev pub numbered : List ℕ → ℕ → List ℕ → List ℕ
@@ -101,7 +151,8 @@ numbered subject number kind =
 abbrev pub message : ListStatus → List ℕ
 message Done = []
 message (Usage fault) = numbered (codes "usage: word ") fault.word (usage_text fault.kind)
-message (Refused fault) = numbered (codes "list: line ") fault.line (list_text fault.kind)
+message (Refused fault) =
+    numbered (place_text fault.place) (place_number fault.place) (list_text fault.kind)
 message ReadFault = codes "aclc-lists: read fault" ++ 10 ∷ []
 message WriteFault = codes "aclc-lists: write fault" ++ 10 ∷ []
 message OutOfMemory = codes "aclc-lists: out of memory" ++ 10 ∷ []

@@ -1,8 +1,14 @@
--- What the code holds of a request, as the definitions name it.
+-- What the code holds of a request and of chains, as the definitions name it.
+use Rattle.std.specs.Prelude.{map}
 use Rattle.std.specs.Option.{option_map}
+use Rattle.std.specs.declared.vec.Vec.{Vec}
+use Rattle.std.specs.declared.alloc.Global.{Global}
+use Rattle.nft_reader.specs.declared.fault.RuleFault.{RuleFault}
+use Rattle.list_tool.specs.declared.listing.Way.{Way}
 use Rattle.list_tool.specs.declared.words.Request as asked
 use Rattle.list_tool.specs.declared.words.Options as chosen
 use Rattle.list_tool.specs.declared.words.Given as so_far
+use Rattle.list_tool.specs.Listing.{WayView}
 use Rattle.list_tool.specs.Words.{Given, Options, Request}
 
 -- the options
@@ -21,4 +27,12 @@ request_of request = record {
   file = request.file.now;
   chain = request.chain.now;
   options = options_of request.options;
+}
+
+-- chains with their faults, and which of them packets come to
+abbrev pub way_view : Way → WayView
+way_view way = record {
+  chains = way.chains.items;
+  faults = map (λ (faults : Vec RuleFault Global). faults.items) way.faults.items;
+  start = way.start;
 }

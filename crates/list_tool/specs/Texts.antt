@@ -2,14 +2,14 @@
 use Rattle.std.specs.Prelude.{◌≡◌, ℕ, List, Result, Ok, IfOk, IfErr}
 use Rattle.std.specs.declared.vec.Vec.{Vec}
 use Rattle.std.specs.declared.alloc.Global.{Global}
-use Rattle.field_defs.specs.declared.field.Family.{Family}
 use Rattle.rule_set.specs.Rule.{RuleView, RuleSetView}
 use Rattle.classbench_reader.specs.RuleFile.{rule_file_of}
 use Rattle.printed_lists.specs.Listed.{lists_of}
 use Rattle.iptables_reader.specs.declared.table.Answers.{Answers}
 use Rattle.list_tool.specs.declared.status.Refusal.{Refusal}
 use Rattle.list_tool.specs.Decides.{IsRuleFileOf, Listed}
-use Rattle.list_tool.specs.Listing.{rules_for}
+use Rattle.list_tool.specs.declared.words.Form.{Form}
+use Rattle.list_tool.specs.Listing.{family_of, rules_for}
 use Rattle.list_tool.specs.Printed.{Refuses, text_of, text_of_rules}
 use Rattle.list_tool.specs.Words.{Request}
 
@@ -20,11 +20,12 @@ pub record ListedFor (request : Request) (bytes : List ℕ) (its : Answers) (set
   pub listed : Listed request its bytes set
 
 -- A result is the text of these rules, which is read as them; or their fault, or want of memory.
-pub record IsTextOfRules (its : Family) (bytes : List ℕ) (by_line rules : List RuleView)
+pub record IsTextOfRules (form : Form) (bytes : List ℕ) (by_line rules : List RuleView)
     (result : Result (Vec ℕ Global) Refusal) : Type 0 where
-  pub text : IfOk result (λ text. text_of_rules its bytes by_line rules ≡ Ok text.items)
-  pub accepted : IfOk result (λ text. rule_file_of text.items ≡ Ok (lists_of its rules))
-  pub refused : IfErr result (Refuses (text_of_rules its bytes by_line rules))
+  pub text : IfOk result (λ text. text_of_rules form bytes by_line rules ≡ Ok text.items)
+  pub accepted : IfOk result
+      (λ text. rule_file_of text.items ≡ Ok (lists_of (family_of form) rules))
+  pub refused : IfErr result (Refuses (text_of_rules form bytes by_line rules))
 
 -- A result is the text that is asked for, which decides as the list does; or the first thing of the
 -- list that can't be said, or want of memory.

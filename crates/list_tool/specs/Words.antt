@@ -12,7 +12,7 @@ use Rattle.command_words.specs.declared.usage_fault.UsageKind.TheVariants.{Repea
 use Rattle.iptables_reader.specs.declared.table.Answers.{Answers}
 use Rattle.iptables_reader.specs.declared.table.Answers.TheVariants.{Line, Verdict}
 use Rattle.list_tool.specs.declared.words.Form.{Form}
-use Rattle.list_tool.specs.declared.words.Form.TheVariants.{Iptables, Ip6tables, Cisco}
+use Rattle.list_tool.specs.declared.words.Form.TheVariants.{Iptables, Ip6tables, Cisco, Nft}
 use Rattle.iptables_reader.specs.Assumed.{is_assumption}
 
 -- what the userdata of rules is, and what is assumed of packets beside their bytes
@@ -36,7 +36,8 @@ abbrev pub form_named : List ℕ → Option Form
 form_named word =
     if bytes_eq word (codes "iptables") then Some Iptables
     else (if bytes_eq word (codes "ip6tables") then Some Ip6tables
-    else (if bytes_eq word (codes "cisco") then Some Cisco else None))
+    else (if bytes_eq word (codes "cisco") then Some Cisco
+    else (if bytes_eq word (codes "nft") then Some Nft else None)))
 
 -- ---- options
 

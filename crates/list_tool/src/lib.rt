@@ -8,6 +8,7 @@
 //! | `tool` | the way in: words, list, text, and how it ended |
 //! | `words` | the words of the command line |
 //! | `listing` | a list → the rules of one of its chains |
+//! | `ruleset` | the same of a ruleset of nft, up to its chains |
 //! | `printing` | rules, and the lines that they were made of → the text of a rule file |
 //! | `status` | how a run ended, and what in a list is refused |
 //! | `message` | the line that tells it |
@@ -20,12 +21,13 @@ mod listing;
 mod message;
 mod printing;
 mod program;
+mod ruleset;
 mod status;
 mod tool;
 mod words;
 
 pub use message::message_line;
 pub use program::{run_list_program, run_list_words, run_lists_over};
-pub use status::{ListFault, ListKind, ListStatus};
+pub use status::{ListFault, ListKind, ListPlace, ListStatus};
 pub use tool::run_lists;
 pub use words::Form;

@@ -3,12 +3,14 @@
 ghost use Rattle.std.specs.Prelude.{◌≡◌, ◌≤◌, length, take};
 ghost use Rattle.acl_report.specs.declared.line.TheConstants.{LINE_ROOM};
 ghost use Rattle.command_ending.specs.Message.{usage_text};
-ghost use Rattle.list_tool.specs.Message.{cisco_text, list_text, message, numbered, table_text};
+ghost use Rattle.list_tool.specs.Message.{cisco_text, list_text, message, numbered, object_text};
+ghost use Rattle.list_tool.specs.Message.{place_number, place_text, rule_text, start_text, table_text};
 
-use crate::status::{ListKind, ListStatus};
+use crate::status::{ListKind, ListPlace, ListStatus};
 use acl_report::{LINE_ROOM, append, append_number};
 use command_words::UsageKind;
 use iptables_reader::LineKind;
+use nft_reader::{ObjectKind, RuleKind, StartFault};
 
 /// Writes the line of a status to the front of `into`, and gives its length with the LF that ends
 /// it. `Done` has no line.
@@ -21,10 +23,12 @@ pub fn message_line(status: &ListStatus, into: &mut [u8; LINE_ROOM]) -> usize
     match status {
         ListStatus::Done => 0,
         ListStatus::Usage(fault) => {
-            numbered_line(b"usage: word ", fault.word, usage_kind(fault.kind), into)
+            let number = u64::from(fault.word);
+            numbered_line(b"usage: word ", number, usage_kind(fault.kind), into)
         }
         ListStatus::Refused(fault) => {
-            numbered_line(b"list: line ", fault.line, list_kind(fault.kind), into)
+            let number = place_number(fault.place);
+            numbered_line(place_name(fault.place), number, list_kind(fault.kind), into)
         }
         ListStatus::ReadFault => append(into, 0, b"aclc-lists: read fault\n"),
         ListStatus::WriteFault => append(into, 0, b"aclc-lists: write fault\n"),
@@ -33,7 +37,7 @@ pub fn message_line(status: &ListStatus, into: &mut [u8; LINE_ROOM]) -> usize
 }
 
 /// A line that names a number and what is wrong there.
-fn numbered_line(subject: &[u8], number: u32, kind: &[u8], into: &mut [u8; LINE_ROOM]) -> usize
+fn numbered_line(subject: &[u8], number: u64, kind: &[u8], into: &mut [u8; LINE_ROOM]) -> usize
     requires subject { length subject.now ≤ 40 }
     requires kind { length kind.now ≤ 40 }
     ensures within { result ≤ LINE_ROOM }
@@ -41,10 +45,32 @@ fn numbered_line(subject: &[u8], number: u32, kind: &[u8], into: &mut [u8; LINE_
 {
     let at = append(into, 0, b"aclc-lists: ");
     let at = append(into, at, subject);
-    let at = append_number(into, at, u64::from(number));
+    let at = append_number(into, at, number);
     let at = append(into, at, b": ");
     let at = append(into, at, kind);
     append(into, at, b"\n")
+}
+
+/// What a place is called, before its number.
+fn place_name(place: ListPlace) -> &'static [u8]
+    ensures text { result.now ≡ place_text place }
+    ensures short { length result.now ≤ 40 }
+{
+    match place {
+        ListPlace::Line(_) => b"list: line ",
+        ListPlace::Object(_) => b"list: object ",
+        ListPlace::Handle(_) => b"list: handle ",
+    }
+}
+
+/// The number of a place.
+fn place_number(place: ListPlace) -> u64
+    ensures { result ≡ place_number place }
+{
+    match place {
+        ListPlace::Line(number) | ListPlace::Handle(number) => u64::from(number),
+        ListPlace::Object(number) => number as u64,
+    }
 }
 
 fn usage_kind(kind: UsageKind) -> &'static [u8]
@@ -68,6 +94,9 @@ fn list_kind(kind: ListKind) -> &'static [u8]
     match kind {
         ListKind::Line(fault) => table_kind(fault),
         ListKind::CiscoLine(fault) => cisco_kind(fault),
+        ListKind::Object(fault) => object_kind(fault),
+        ListKind::Rule(fault) => rule_kind(fault),
+        ListKind::BaseChain(fault) => start_kind(fault),
         ListKind::NoChain => b"no such chain",
         ListKind::NoPolicy => b"chain without a policy",
         ListKind::NoTarget => b"target not there",
@@ -154,5 +183,48 @@ fn cisco_kind(fault: cisco_reader::LineKind) -> &'static [u8]
         cisco_reader::LineKind::Compares => b"matches what no rule file says",
         cisco_reader::LineKind::IcmpType => b"type of ICMP",
         cisco_reader::LineKind::UnknownWord => b"unknown word",
+    }
+}
+
+fn object_kind(fault: ObjectKind) -> &'static [u8]
+    ensures text { result.now ≡ object_text fault }
+    ensures short { length result.now ≤ 40 }
+{
+    match fault {
+        ObjectKind::FileTooLong => b"file too long",
+        ObjectKind::NotJson => b"no JSON in UTF-8",
+        ObjectKind::NoList => b"no ruleset of nft",
+        ObjectKind::UnknownObject => b"unknown object",
+        ObjectKind::NoFamily => b"no family",
+        ObjectKind::BadTable => b"table with flags",
+        ObjectKind::BadChain => b"bad chain",
+        ObjectKind::BadPolicy => b"bad policy",
+        ObjectKind::ChainTwice => b"chain declared twice",
+        ObjectKind::BadRule => b"bad rule",
+        ObjectKind::NoChain => b"chain not declared",
+    }
+}
+
+fn rule_kind(fault: RuleKind) -> &'static [u8]
+    ensures text { result.now ≡ rule_text fault }
+    ensures short { length result.now ≤ 40 }
+{
+    match fault {
+        RuleKind::BadStatement => b"bad statement",
+        RuleKind::UnknownStatement => b"unknown statement",
+        RuleKind::AfterVerdict => b"statement after the verdict",
+        RuleKind::NoTarget => b"target not there",
+        RuleKind::Rate => b"depends on a rate",
+        RuleKind::CantSay => b"matches what no rule file says",
+    }
+}
+
+fn start_kind(fault: StartFault) -> &'static [u8]
+    ensures text { result.now ≡ start_text fault }
+    ensures short { length result.now ≤ 40 }
+{
+    match fault {
+        StartFault::NoStart => b"no base chain of this name",
+        StartFault::ManyStarts => b"base chains of this name in many tables",
     }
 }

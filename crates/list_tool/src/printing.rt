@@ -1,4 +1,4 @@
-//! Rules and the lines that they were made of in, the text of a rule file out.
+//! Rules and what they were made of in, the text of a rule file out.
 
 ghost use Rattle.std.specs.Prelude.{◌≡◌, ◌++◌, length, map, nat_lt, IfErr, IfOk, OnOk};
 ghost use Rattle.std.specs.Option.{option_map};
@@ -6,18 +6,18 @@ ghost use Rattle.text_scan.specs.Parts.{lines_of};
 ghost use Rattle.classbench_reader.specs.Limits.{max_rule_file};
 ghost use Rattle.classbench_reader.specs.Print.{fields_of, has_prefixes, is_one_prefix};
 ghost use Rattle.classbench_reader.specs.RuleFile.{rule_file_of};
-ghost use Rattle.printed_lists.specs.Listed.{line_views, lists_of};
-ghost use Rattle.list_tool.specs.Listing.{rules_for};
+ghost use Rattle.printed_lists.specs.Listed.{Comment, line_view, line_views, lists_of};
+ghost use Rattle.list_tool.specs.Listing.{family_of, rules_for};
 ghost use Rattle.list_tool.specs.Texts.{IsTextOf, IsTextOfRules, ListedFor};
 ghost use Rattle.list_tool.specs.Printed.{Refuses, after_comment, comment_of};
 ghost use Rattle.list_tool.specs.Printed.{commented, first_odd, line_text};
-ghost use Rattle.list_tool.specs.Printed.{number_at, number_before, text_of};
+ghost use Rattle.list_tool.specs.Printed.{number_at, number_before, number_text, text_of};
 ghost use Rattle.list_tool.specs.Printed.{text_of_rules};
 ghost use Rattle.list_tool.specs.Requests.{request_of};
 
-use crate::listing::{family_of, listed_rules, of_no_line};
+use crate::listing::{at_no_place, family_of, listed_rules, rule_place};
 use crate::status::{ListFault, ListKind, Refusal};
-use crate::words::Request;
+use crate::words::{Form, Request};
 use classbench_reader::MAX_RULE_FILE;
 use field_defs::{Family, FieldValue};
 use iptables_reader::Answers;
@@ -53,7 +53,7 @@ fn text_with(
     ensures { IsTextOf (request_of request.now) bytes.now result }
 {
     match request.options.answers {
-        Answers::Line => text_of_rules(alloc, family_of(request.form), bytes, by_line, by_line),
+        Answers::Line => text_of_rules(alloc, request.form, bytes, by_line, by_line),
         Answers::Verdict => text_with_verdicts(alloc, bytes, request, by_line),
     }
 }
@@ -70,7 +70,7 @@ fn text_with_verdicts(
     ensures { IsTextOf (request_of request.now) bytes.now result }
 {
     match rules_for(alloc, bytes, request, Answers::Verdict) {
-        Ok(rules) => text_of_rules(alloc, family_of(request.form), bytes, by_line, &rules),
+        Ok(rules) => text_of_rules(alloc, request.form, bytes, by_line, &rules),
         Err(refusal) => Err(refusal),
     }
 }
@@ -89,31 +89,32 @@ fn rules_for(
     listed_rules(alloc, bytes, request, answers)
 }
 
-/// The text of some rules, by the lines of the list and the lines of the rules.
+/// The text of some rules, by the lines of the list and the numbers of the rules.
 fn text_of_rules(
     alloc: Global,
-    family: Family,
+    form: Form,
     bytes: &[u8],
     by_line: &RuleSet,
     set: &RuleSet,
 ) -> Result<Vec<u8>, Refusal>
-    requires { set.now.layout ≡ fields_of family }
-    ensures { IsTextOfRules family bytes.now by_line.now.rules set.now.rules result }
+    requires { set.now.layout ≡ fields_of (family_of form) }
+    ensures { IsTextOfRules form bytes.now by_line.now.rules set.now.rules result }
 {
+    let family = family_of(form);
     let numbered = by_line.all();
     let rules = set.all();
-    if let Some(line) = first_odd(family, numbered, rules) {
+    if let Some(number) = first_odd(family, numbered, rules) {
         return Err(Refusal::Fault(ListFault {
-            line,
+            place: rule_place(form, number),
             kind: ListKind::NoPrefix,
         }));
     }
     let texts = lines_of(alloc, bytes)?;
-    let lines = commented(alloc, &texts, numbered, rules)?;
+    let lines = commented(alloc, form, &texts, numbered, rules)?;
     let mut text = Vec::new(alloc);
     put_list(alloc, &mut text, family, &lines)?;
     if is_too_long(&text) {
-        return Err(Refusal::Fault(of_no_line(ListKind::TextTooLong)));
+        return Err(Refusal::Fault(at_no_place(form, ListKind::TextTooLong)));
     }
     Ok(text)
 }
@@ -125,7 +126,7 @@ fn is_too_long(text: &[u8]) -> bool
     text.len() > MAX_RULE_FILE
 }
 
-/// The line of the first rule whose addresses no prefix says, if there is one.
+/// The number of the first rule whose addresses no prefix says, if there is one.
 fn first_odd(family: Family, by_line: &[StoredRule], rules: &[StoredRule]) -> Option<u32>
     ensures { result ≡ first_odd family by_line.now 0 rules.now }
 {
@@ -166,7 +167,7 @@ fn is_one_prefix(high: &FieldValue, low: &FieldValue) -> bool
     }
 }
 
-/// The line of the rule at a place, and 0 where there is none.
+/// The number of the rule at a place, and 0 where there is none.
 fn number_at(by_line: &[StoredRule], place: usize) -> u32
     ensures { result ≡ number_at by_line.now place }
 {
@@ -176,7 +177,7 @@ fn number_at(by_line: &[StoredRule], place: usize) -> u32
     }
 }
 
-/// The line of the rule before a place.
+/// The number of the rule before a place.
 fn number_before(by_line: &[StoredRule], place: usize) -> u32
     ensures { result ≡ number_before by_line.now place }
 {
@@ -213,50 +214,64 @@ fn lines_of<'a>(alloc: Global, bytes: &'a [u8]) -> Result<Vec<&'a [u8]>, AllocEr
     Ok(lines)
 }
 
-/// The lines of a rule file: each rule, after the text of its line where that is another than the
-/// line before.
+/// The lines of a rule file: each rule, after what is said of its number where that is another than
+/// the number before.
 fn commented<'a>(
     alloc: Global,
+    form: Form,
     texts: &[&'a [u8]],
     by_line: &[StoredRule],
     rules: &'a [StoredRule],
 ) -> Result<Vec<ListLine<'a>>, AllocError>
     ensures { IfOk result (λ lines. line_views lines.items
-        ≡ commented (map (λ text. text.now) texts.now) by_line.now 0 rules.now) }
+        ≡ commented form (map (λ text. text.now) texts.now) by_line.now 0 rules.now) }
 {
     let mut lines = Vec::new(alloc);
     for place in 0..rules.len() {
         let number = number_at(by_line, place);
-        let comment = comment_of(texts, number_before(by_line, place), number);
+        let comment = comment_of(form, texts, number_before(by_line, place), number);
         put_rule(&mut lines, comment, &rules[place])?;
     }
     Ok(lines)
 }
 
-/// The text of a rule's line, where it is another than the line before.
-fn comment_of<'a>(texts: &[&'a [u8]], before: u32, number: u32) -> Option<&'a [u8]>
-    ensures { option_map (λ text. text.now) result
-        ≡ comment_of (map (λ text. text.now) texts.now) before number }
+/// What is said of a rule's number, where that is another than the number before.
+fn comment_of<'a>(form: Form, texts: &[&'a [u8]], before: u32, number: u32) -> Option<ListLine<'a>>
+    ensures { option_map line_view result
+        ≡ comment_of form (map (λ text. text.now) texts.now) before number }
 {
     if number == before {
         None
     } else {
-        Some(line_text(texts, number))
+        Some(number_line(form, texts, number))
+    }
+}
+
+/// What is said of the rules of a number: the text of its line, or that it is the handle.
+fn number_line<'a>(form: Form, texts: &[&'a [u8]], number: u32) -> ListLine<'a>
+    ensures { line_view result
+        ≡ Comment (number_text form (map (λ text. text.now) texts.now) number) }
+{
+    match form {
+        Form::Iptables | Form::Ip6tables | Form::Cisco => {
+            ListLine::Comment(line_text(texts, number))
+        }
+        Form::Nft => ListLine::Numbered(b"handle ", number),
     }
 }
 
 /// Puts a rule after the other lines, and its comment before it, if it has one.
 fn put_rule<'a>(
     lines: &mut Vec<ListLine<'a>>,
-    comment: Option<&'a [u8]>,
+    comment: Option<ListLine<'a>>,
     rule: &'a StoredRule,
 ) -> Result<(), AllocError>
     ensures { OnOk result (line_views lines.new.items ≡ line_views lines.old.items
-        ++ after_comment (option_map (λ text. text.now) comment.entry) rule.now) }
+        ++ after_comment (option_map line_view comment.entry) rule.now) }
 {
     match comment {
-        Some(text) => {
-            lines.push(ListLine::Comment(text))?;
+        Some(line) => {
+            lines.push(line)?;
             lines.push(ListLine::Rule(rule))?;
             Ok(())
         }

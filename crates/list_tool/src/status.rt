@@ -5,14 +5,25 @@ ghost use Rattle.list_tool.specs.Message.{code_of};
 
 use command_words::UsageFault;
 use iptables_reader::LineKind;
+use nft_reader::{ObjectKind, RuleKind, StartFault};
 use std::alloc::AllocError;
 
-/// The first thing of a list that can't be said in a rule file, and the number of its line, from 1.
-/// What stands in no line has the number 0.
+/// The first thing of a list that can't be said in a rule file, and where it stands.
 #[derive(Clone, Copy)]
 pub struct ListFault {
-    pub line: u32,
+    pub place: ListPlace,
     pub kind: ListKind,
+}
+
+/// Where something stands in a list.
+#[derive(Clone, Copy)]
+pub enum ListPlace {
+    /// In the line of this number, from 1. What stands in no line has the number 0.
+    Line(u32),
+    /// In the object of a ruleset of this number, from 1. What stands in none has the number 0.
+    Object(usize),
+    /// In the rule of a ruleset that has this handle.
+    Handle(u32),
 }
 
 /// What can't be said in a rule file.
@@ -22,6 +33,12 @@ pub enum ListKind {
     Line(LineKind),
     /// The line of a configuration isn't read.
     CiscoLine(cisco_reader::LineKind),
+    /// The object of a ruleset isn't read.
+    Object(ObjectKind),
+    /// No rule file says the rule of a ruleset.
+    Rule(RuleKind),
+    /// The ruleset has no chain of the name that packets come to by themselves, or several.
+    BaseChain(StartFault),
     /// The list has no chain of the name. It stands in no line.
     NoChain,
     /// Packets come to the chain from other chains alone. It stands in no line.

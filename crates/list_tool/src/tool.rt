@@ -19,19 +19,20 @@ use command_ending::{Status, read_file};
 use iptables_reader::MAX_LIST;
 use std::alloc::Global;
 
-/// Prints the rule file of a chain of a firewall's list, or of a list of a router's configuration,
-/// and tells how that ended.
+/// Prints the rule file of a chain of a firewall's list or ruleset, or of a list of a router's
+/// configuration, and tells how that ended.
 ///
 /// The words are those after the program's name: `iptables` or `ip6tables`, the name of the file,
 /// and the name of a chain that packets come to by themselves; or `cisco`, the name of the file,
-/// and the name or the number of an extended list of IPv4. Then options: `data=line` or
-/// `data=verdict`, and `assume=`, which changes nothing for `cisco`.
+/// and the name or the number of an extended list of IPv4; or `nft`, the name of the file, and the
+/// name of a base chain. Then options: `data=line` or `data=verdict`, and `assume=`, which changes
+/// nothing for `cisco`.
 ///
 /// The list is read through `desk`. What is put to `out` is a rule file whose winner has, for every
 /// packet of the family, the number of the line that decides, or its verdict. Above its rules stand
-/// the texts of their lines as comments. Where the status isn't `Done` a line that names the cause
-/// goes to `err`, whose failure changes nothing. The text is whole in memory before its first byte
-/// is put.
+/// the texts of their lines as comments. Rules and chains of `nft` have handles in the place of
+/// lines. Where the status isn't `Done` a line that names the cause goes to `err`, whose failure
+/// changes nothing. The text is whole in memory before its first byte is put.
 pub fn run_lists<D: Desk, O: Sink, E: Sink>(
     alloc: Global,
     words: &[String],

@@ -18,6 +18,8 @@ pub enum Form {
     Ip6tables,
     /// A configuration of Cisco IOS.
     Cisco,
+    /// What `nft -j list ruleset` prints, for IPv4 packets.
+    Nft,
 }
 
 /// What is asked for: the rule file of a chain of a list.
@@ -71,6 +73,7 @@ fn form_named(word: &str) -> Option<Form>
         "iptables" => Some(Form::Iptables),
         "ip6tables" => Some(Form::Ip6tables),
         "cisco" => Some(Form::Cisco),
+        "nft" => Some(Form::Nft),
         _ => None,
     }
 }

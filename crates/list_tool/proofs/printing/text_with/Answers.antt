@@ -1,7 +1,6 @@
-use Rattle.std.proofs.Common.{◌≡◌, subst}
+use Rattle.std.proofs.Common.{◌≡◌}
 use Rattle.iptables_reader.specs.declared.table.Answers.TheVariants.{Line}
 use Rattle.list_tool.specs.Requests.{request_of}
-use Rattle.list_tool.specs.Texts.{IsTextOfRules}
 use Rattle.list_tool.proofs.Asked.{text_ends}
 use Rattle.list_tool.proofs.printing.text_with.Goals as goal
 
@@ -11,6 +10,4 @@ returns-in-Line c =
     let told = c.in-Line.is in
     let asked : c.args.request.now.options.answers ≡ Line = cc in
     text_ends (request_of c.args.request.now) c.args.bytes.now by_line Line c.requires asked by_line c.requires
-    c.text_of_rules.result
-    (subst (λ its. IsTextOfRules its c.args.bytes.now by_line.rules by_line.rules c.text_of_rules.result)
-    c.family_of.ensures c.text_of_rules.ensures)
+    c.text_of_rules.result c.text_of_rules.ensures
