@@ -1,8 +1,8 @@
 # SPDX-License-Identifier: BSD-3-Clause
 """The proved program aclc-lists: where it is, which lists it is asked for, and the rule file that it writes.
 
-The tools read a list first: the chain or the list and the family that are meant, and what its other tables do. Of a
-table the program is handed filter alone, in which each line keeps its number.
+The tools read a list first: the chain or the list and the family that are meant, and what its other tables do. The
+program is handed one table alone: of iptables filter, in which each line keeps its number, and of nft that of the chain.
 """
 import os
 import re
@@ -12,14 +12,16 @@ from pathlib import Path
 
 from aclc_tools import assume
 from aclc_tools.lists import printable
+from aclc_tools.nftables import table_alone
 from aclc_tools.program import TOP, leave
 
 BUILT = TOP / "crates" / "aclc_lists" / "out" / "aclc_lists"
-WORDS = {("iptables", 4): "iptables", ("iptables", 6): "ip6tables", ("cisco", 4): "cisco", ("cisco", 6): "cisco"}
+WORDS = {("iptables", 4): "iptables", ("iptables", 6): "ip6tables", ("cisco", 4): "cisco", ("cisco", 6): "cisco",
+         ("nft", 4): "nft"}
 DONE, REFUSED = 0, 3
-SAID = re.compile(r"aclc-lists: list: line (\d+): (.*)\n")
-# What came of a list: the lines of the program's rule file, or the number of the line that it refuses and why.
-Written = namedtuple("Written", "lines number reason")
+SAID = re.compile(r"aclc-lists: list: (line|object|handle) (\d+): (.*)\n")
+# What came of a list: the lines of the program's rule file, or what it refuses, by its number, and why.
+Written = namedtuple("Written", "lines what number reason")
 
 
 def built_list_program():
@@ -33,7 +35,7 @@ def built_list_program():
 
 def takes(options):
     """Whether it is asked for what options say."""
-    return ((options.form == "cisco" or options.form == "iptables" and options.table in (None, "filter"))
+    return ((options.form in ("cisco", "nft") or options.form == "iptables" and options.table in (None, "filter"))
             and not options.lenient and options.data in ("line", "verdict"))
 
 
@@ -50,38 +52,41 @@ def filter_alone(text):
 
 def handed(options, text):
     """What the program is given of a list."""
+    if options.form == "nft":
+        return table_alone(text, options)
     return filter_alone(text) if options.form == "iptables" else text
 
 
 def head_of(options, family, chain):
     """The first comment of a rule file."""
-    data = {"line": "the line that decides", "verdict": "1 where a rule accepts, 2 where it drops, 3 where it rejects"}
+    data = {"line": f"the {'handle' if options.form == 'nft' else 'line'} that decides",
+            "verdict": "1 where a rule accepts, 2 where it drops, 3 where it rejects"}
     yield (f"# Made by aclc-lists {WORDS[options.form, family]} of {Path(options.file).name}, {chain}. "
            f"Userdata is {data[options.data]}.")
     if assume.of(options).told():
         yield f"# Assumed: {assume.of(options).told()}."
 
 
-def written(options, text, family, chain):
-    """What the program makes of a chain or a list that it takes; what isn't the list's own fault ends the tool."""
+def written(options, given, family, chain):
+    """What the program makes of a list that it is given; what isn't the list's own fault ends the tool."""
     told = assume.of(options).told()
     words = [WORDS[options.form, family], "/dev/stdin", chain, f"data={options.data}"] + [f"assume={told}"] * bool(told)
-    done = subprocess.run([str(built_list_program()), *words], input=handed(options, text).encode(), stdout=subprocess.PIPE,
+    done = subprocess.run([str(built_list_program()), *words], input=given.encode(), stdout=subprocess.PIPE,
                           stderr=subprocess.PIPE)
     said = done.stderr.decode(errors="replace")
     if done.returncode == REFUSED and SAID.fullmatch(said):
-        number, reason = SAID.fullmatch(said).groups()
-        return Written(None, int(number), reason)
+        what, number, reason = SAID.fullmatch(said).groups()
+        return Written(None, what, int(number), reason)
     if done.returncode != DONE or said:
         return leave(f"{options.file}: aclc-lists ended with {done.returncode}: {said.strip() or 'no message'}",
                      done.returncode or 101)
     lines = [f"# {printable(line[2:])}" if line.startswith("#") else line
              for line in done.stdout.decode(errors="replace").split("\n")[:-1]]
-    return Written([*head_of(options, family, chain), *lines], 0, "")
+    return Written([*head_of(options, family, chain), *lines], "", 0, "")
 
 
 def by_program(options, text, done):
     """The same of a list that the tools converted, or None where the program isn't built, or isn't asked for that."""
-    if not takes(options) or not built_list_program():
+    if not takes(options) or (options.form, *done.families) not in WORDS or not built_list_program():
         return None
-    return written(options, text, done.families[0], done.flattener.start)
+    return written(options, handed(options, text), done.families[0], done.flattener.start)

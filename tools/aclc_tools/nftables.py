@@ -121,6 +121,15 @@ def chosen(ruleset, options):
     return fitting[0]
 
 
+def table_alone(text, options):
+    """A ruleset with the table alone whose chain is meant: an object that says nothing stands for each other one."""
+    objects = json.loads(text, object_pairs_hook=unique)["nftables"]
+    family, table, _ = chosen(Ruleset(objects), options)
+    kept = [it if (said.get("family"), said.get("name" if name == "table" else "table")) == (family, table)
+            else {"metainfo": {}} for it in objects for name, said in [one_of(it)]]
+    return json.dumps({"nftables": kept})
+
+
 def policy_of(chain):
     """The policy of a chain that packets come to by themselves."""
     if "hook" not in chain:

@@ -40,9 +40,10 @@ def draw(draw):
     return Drawn(lines, "\n".join, options("101"), Walked, routers.Unknown)
 
 
-def has_no_part(text, number):
-    """Whether a line is one of another list than 101."""
-    begun = [line for line in text.split("\n")[:number] if re.match(r"object-group\b|(ip )?access-list\b", line)]
+def has_no_part(text, refused):
+    """Whether the refused line is one of another list than 101."""
+    begun = [line for line in text.split("\n")[:refused.number]
+             if re.match(r"object-group\b|(ip )?access-list\b", line)]
     return bool(begun) and not re.match(r"(ip access-list extended|access-list) 101\b|object-group\b", begun[-1])
 
 

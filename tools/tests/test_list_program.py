@@ -1,5 +1,6 @@
 # SPDX-License-Identifier: BSD-3-Clause
 """The program aclc-lists beside tools/convert and the lists' own judge, and tools/convert where it asks the program."""
+import json
 import random
 import re
 import subprocess
@@ -10,14 +11,17 @@ from pathlib import Path
 import damages
 import draws_cisco
 import draws_iptables
+import draws_nft
+import draws_rulesets
 import list_programs
 import test_cisco
+import test_nftables
 from aclc_tools import list_program
 from converting import DATA, decided, rules_of
 from tool import tool
 
 DRAWN, SEED = 200, 53
-DAMAGED = {"iptables": 200, "cisco": 1000}
+DAMAGED = {"iptables": 200, "cisco": 1000, "nft": 1000}
 # The shipped lists, and the rules that they become.
 SHIPPED = zip(draws_iptables.SHIPPED, ("gateway.rules", "gateway6.rules", "server.rules"))
 LIST = ("*nat\n:PREROUTING ACCEPT [0:0]\nCOMMIT\n*filter\n:INPUT DROP [0:0]\n-A INPUT -s 10.0.0.1/32 -j ACCEPT\nCOMMIT\n"
@@ -53,6 +57,8 @@ ENDS = (
     (["cisco", EDGE, "WEB6"], 3, "list: line 23: no extended list of IPv4"),
     (["cisco", EDGE, "WITH-STATE"], 3, "list: line 30: matches what no rule file says"),
     (["cisco", str(DATA / "branch.cisco"), "TO-SERVERS"], 3, "list: line 33: unknown line"),
+    (["nft", str(DATA / "router.nft-json"), "admins"], 3, "list: object 0: no base chain of this name"),
+    (["nft", str(DATA / "router.nft"), "forward"], 3, "list: object 0: no JSON in UTF-8"),
 )
 # Lists that the tools refuse for what has no part in the list that is asked for, and the program takes: a line near one
 # that begins a list, and a list beside another, of which one has to be named.
@@ -148,17 +154,66 @@ class Configurations(unittest.TestCase):
                         self.assertIsNone(list_programs.by_program(draws_cisco.options(name), text))
 
 
+class Rulesets(unittest.TestCase):
+    """Rulesets of nft, for IPv4 packets."""
+
+    def alike(self, text, chain, assumed, data):
+        """Whether the program takes a ruleset; its rules then answer as those of the tools."""
+        options = draws_rulesets.options(chain, assumed, data)
+        made, (wanted, _) = list_programs.by_program(options, text), list_programs.by_converter(options, text)
+        if made is None:
+            return False
+        self.assertIsNotNone(wanted, "the tools refuse the ruleset")
+        for rules in (rules_of(made), rules_of(wanted)):
+            for fields in damages.fields_near(rules, 400, random.Random(SEED)):
+                self.assertEqual(decided(rules_of(made), fields), decided(rules_of(wanted), fields), fields)
+        return True
+
+    @BUILT
+    def test_shipped_rulesets_decide_as_those_of_the_tools_or_are_refused(self):
+        for file, chain, assumed in draws_nft.SHIPPED:
+            for data in ("line", "verdict"):
+                with self.subTest(file=file, data=data):
+                    self.alike((DATA / file).read_text(), chain, assumed, data)
+
+    @BUILT
+    def test_rulesets_that_the_tools_take_decide_as_theirs_or_are_refused(self):
+        taken = 0
+        more = [test_nftables.named("s", ["10.0.0.1"]), test_nftables.named("none", [])]
+        rules = [((*statements, test_nftables.DROP), more) for statements, _, _ in test_nftables.TAKEN]
+        rules += [(({"reject": {"type": kind}},), ()) for kind, _, _ in test_nftables.REJECTED]
+        mapped = [test_nftables.services([[22, {"return": None}], [80, test_nftables.DROP]])]
+        rules += [(({"vmap": {"key": test_nftables.DPORT, "data": data}},), mapped)
+                  for data, _, _ in test_nftables.MAPPED]
+        rules += [(statements, ()) for statements in test_nftables.IDLE]
+        for statements, more in rules:
+            for data in ("line", "verdict"):
+                with self.subTest(statements=statements, data=data):
+                    text = test_nftables.ruleset(*statements, more=more)
+                    taken += self.alike(text, "c", "in=eth0,out=eth1,state=new,local=10.0.0.1", data)
+        self.assertGreater(taken, 10)
+
+    @BUILT
+    def test_rulesets_that_the_tools_refuse_are_refused(self):
+        texts = [test_nftables.ruleset(*statements) for statements, _ in test_nftables.REFUSED
+                 if '"ip6"' not in json.dumps(statements)]
+        texts += [text for text, reason in test_nftables.BROKEN if reason != "stands twice"]
+        for text in texts:
+            with self.subTest(text=text[:400]):
+                self.assertIsNone(list_programs.by_program(draws_rulesets.options("c"), text))
+
+
 class Asking(unittest.TestCase):
     """tools/convert over what stands in for the program."""
 
-    def convert(self, printed, said, code, *words):
+    def convert(self, printed, said, code, *words, form="iptables", text=LIST):
         """What tools/convert ends with, prints and says; and the words and the list that the program was given."""
         with tempfile.TemporaryDirectory() as folder:
             folder = Path(folder)
             (folder / "program").write_text(STAND_IN.format(folder, printed, said, code))
             (folder / "program").chmod(0o755)
-            (folder / "fw").write_text(LIST)
-            done = tool("convert", "iptables", "--family", "4", *words, folder / "fw",
+            (folder / "fw").write_text(text)
+            done = tool("convert", form, "--family", "4", *words, folder / "fw",
                         env={"ACLC_LISTS": str(folder / "program")})
             asked = [(folder / name).read_text() if (folder / name).exists() else None for name in ("words", "list")]
         return done, asked
@@ -181,6 +236,25 @@ class Asking(unittest.TestCase):
         self.assertEqual(code, 0)
         self.assertIn(":6: aclc-lists refuses the list, so these rules are the tool's own: bad address", said)
         self.assertIn("# Made by tools/convert iptables of fw, INPUT.", printed)
+
+    def test_of_a_ruleset_it_is_handed_the_table_alone(self):
+        others = [{"table": {"family": "ip", "name": "u", "handle": 2}},
+                  {"chain": {"family": "ip", "table": "u", "name": "c", "handle": 1}}]
+        text = test_nftables.ruleset(test_nftables.DROP, more=others)
+        (code, printed, said), (words, given) = self.convert(RULES, "", 0, "--table", "t", form="nft", text=text)
+        self.assertEqual((code, said), (0, ""))
+        self.assertIn("# Made by aclc-lists nft of fw, c. Userdata is the handle that decides.", printed)
+        self.assertEqual(words, "nft\n/dev/stdin\nc\ndata=line\n")
+        silent = [*others, *(it for it in json.loads(text)["nftables"] if "metainfo" in it)]
+        self.assertEqual(json.loads(given)["nftables"], [{"metainfo": {}} if it in silent else it
+                                                         for it in json.loads(text)["nftables"]])
+
+    def test_a_rule_of_a_ruleset_that_it_refuses_is_told_by_its_handle(self):
+        text = test_nftables.ruleset(test_nftables.DROP)
+        for what in ("handle 9", "object 3"):
+            (code, _, said), _ = self.convert("", f"aclc-lists: list: {what}: bad rule\\n", 3, form="nft", text=text)
+            self.assertEqual(code, 0)
+            self.assertIn(f"fw: {what}: aclc-lists refuses the list, so these rules are the tool's own: bad rule", said)
 
     def test_any_other_end_of_it_ends_the_tool(self):
         for printed, said, code in ((RULES, "aclc-lists: write fault\\n", 8), ("", "aclc-lists: out of memory\\n", 9),
