@@ -241,7 +241,7 @@ value_moves family assumed chains r to word option.Protocol good is whole =
 value_moves family assumed chains r to word option.Match good is whole =
     match_moves family r to (owner_in word match_table) (match_named word) (not_negated r.negated good) is whole
 value_moves family assumed chains r to word (option.Interface which) good is whole =
-    way_moves _ to which (only_true (is_interface word) _ _ is) whole
+    way_moves _ to which (only_true (is_interface values.plus word) _ _ is) whole
 value_moves family assumed chains r to word option.SourcePorts good is whole =
     whole_taken _ (values.port_part r.negated word) (λ part. record r { source_ports = Some part }) to is whole
 value_moves family assumed chains r to word option.DestinationPorts good is whole =

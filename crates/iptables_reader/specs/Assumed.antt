@@ -38,35 +38,39 @@ is_name text =
     nat_le (length text) 15 && not (list_any (λ c. c == 47) text)
     && not (list_any (λ c. c == 34) text)
 
--- what stands before a `+` names all interfaces that begin so
+-- what stands before the wildcard names all interfaces that begin so
 abbrev pub is_interface_cut : List ℕ → Option (List ℕ × List ℕ) → Bool
 is_interface_cut word None = is_name word
 is_interface_cut word (Some cut) = length cut.1 == 0 && is_name cut.0
 
--- a word names interfaces; 43 is `+`
-abbrev pub is_interface : List ℕ → Bool
-is_interface word = is_interface_cut word (cut_at 43 word)
+-- a word names interfaces, whose wildcard is a byte
+abbrev pub is_interface : ℕ → List ℕ → Bool
+is_interface wildcard word = is_interface_cut word (cut_at wildcard word)
 
 -- a name begins so
 abbrev pub has_beginning : List ℕ → List ℕ → Bool
 has_beginning name beginning =
     nat_le (length beginning) (length name) && bytes_eq (take (length beginning) name) beginning
 
--- the interface of a name is one of those that a word names, which is cut around `+`
+-- the interface of a name is one of those that a word names, which is cut around the wildcard
 abbrev pub meets_cut : List ℕ → List ℕ → Option (List ℕ × List ℕ) → Bool
 meets_cut word name None = bytes_eq word name
 meets_cut word name (Some cut) = has_beginning name cut.0
 
 -- the same of a word
-abbrev pub meets_interface : List ℕ → List ℕ → Bool
-meets_interface word name = meets_cut word name (cut_at 43 word)
+abbrev pub meets_interface : ℕ → List ℕ → List ℕ → Bool
+meets_interface wildcard word name = meets_cut word name (cut_at wildcard word)
 
 -- ---- states of connections
+
+-- the number of a state by its name in an assumption
+abbrev pub state_named : List ℕ → Option ℕ
+state_named name = number_in name (words_of assumed_state_table)
 
 -- the state that a value spells
 abbrev pub state_of_value : Option (List ℕ) → Option ℕ
 state_of_value None = None
-state_of_value (Some value) = number_in value (words_of assumed_state_table)
+state_of_value (Some value) = state_named value
 
 -- the state of a text
 abbrev pub assumed_state : List ℕ → Option ℕ

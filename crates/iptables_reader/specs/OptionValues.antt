@@ -155,10 +155,14 @@ abbrev pub way_key : Way → List ℕ
 way_key way.In = codes "in"
 way_key way.Out = codes "out"
 
+-- `+` stands at the end of a name for whatever follows there
+abbrev pub plus : ℕ
+plus = 43
+
 -- packets have one of the interfaces, if it is known
 abbrev pub interface_met : List ℕ → Way → List ℕ → Option Bool
 interface_met assumed which word =
-    option_map (meets_interface word) (value_in (way_key which) (parts_of comma assumed))
+    option_map (meets_interface plus word) (value_in (way_key which) (parts_of comma assumed))
 
 -- an option on an interface was read
 abbrev pub with_way : Way → Reading → Reading
@@ -168,7 +172,7 @@ with_way way.Out reading = settled (record reading { outgoing = true })
 -- an interface
 abbrev pub with_interface : List ℕ → Reading → Way → List ℕ → Result Reading LineKind
 with_interface assumed reading which word =
-    if is_interface word
+    if is_interface plus word
     then Ok (with_way which (with_met (interface_met assumed which word) NeedsInterface reading))
     else Err BadInterface
 

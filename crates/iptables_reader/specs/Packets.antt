@@ -77,6 +77,10 @@ with_boxes negated boxes caught =
     if negated then record caught { left = caught.left ++ boxes }
     else record caught { kept = meets caught.kept boxes }
 
+-- none of the packets
+abbrev pub never : CaughtBoxes → CaughtBoxes
+never caught = record caught { kept = [] }
+
 -- packets that have the numbers of a span in a field
 abbrev pub with_span : Packets → Field → Span → Packets
 with_span all field.Protocol span = record all { protocol = span }

@@ -12,8 +12,9 @@ use field_defs::Family;
 use list_chains::Span;
 use std::alloc::AllocError;
 
-/// Puts the spans of a set after others.
-pub(crate) fn put_set(
+/// Puts the spans of a set after others: one, or of a range up to three, or those of the local
+/// addresses that are assumed. It takes memory for these.
+pub fn put_set(
     into: &mut Vec<AddressSpans>,
     family: Family,
     assumed: &[u8],

@@ -11,7 +11,7 @@ ghost use Rattle.iptables_reader.specs.Assumed.{are_states, is_name, knows_local
 ghost use Rattle.iptables_reader.specs.Assumed.{locals_in, loopback, meets_interface, value_in};
 ghost use Rattle.iptables_reader.specs.Assumed.{are_assumptions, assumes_interface, assumes_state};
 ghost use Rattle.iptables_reader.specs.Assumed.{has_repetition, is_assumed, is_assumption};
-ghost use Rattle.iptables_reader.specs.Assumed.{is_repeated, is_state_of, value_said};
+ghost use Rattle.iptables_reader.specs.Assumed.{is_repeated, is_state_of, state_named, value_said};
 ghost use Rattle.iptables_reader.specs.Ports.{comma};
 
 use crate::tables::{assumed_states, number_in, states};
@@ -40,8 +40,8 @@ fn value_said<'a>(part: &'a [u8], key: &[u8]) -> Option<&'a [u8]>
     }
 }
 
-/// The value of the first part that has the key.
-pub(crate) fn value_in<'a>(assumed: &'a [u8], key: &[u8]) -> Option<&'a [u8]>
+/// The value of the first part of an assumption that has the key. It takes no memory.
+pub fn value_in<'a>(assumed: &'a [u8], key: &[u8]) -> Option<&'a [u8]>
     ensures { MatchOption result
         (value_in key.now (parts_of comma assumed.now) ≡ None)
         (λ value. value_in key.now (parts_of comma assumed.now) ≡ Some value.now) }
@@ -56,18 +56,28 @@ pub(crate) fn value_in<'a>(assumed: &'a [u8], key: &[u8]) -> Option<&'a [u8]>
     value_said(left, key)
 }
 
-/// The state that is assumed.
-pub(crate) fn assumed_state(assumed: &[u8]) -> Option<u64>
+/// The number of a state of connections, by its name in an assumption: `invalid`, `new`,
+/// `established`, `related` or `untracked`. It takes no memory.
+///
+/// Source: iptables-extensions(8), "conntrack".
+pub fn state_named(name: &[u8]) -> Option<u64>
+    ensures { result ≡ state_named name.now }
+{
+    number_in(assumed_states(), name)
+}
+
+/// The number of the state that is assumed. It takes no memory.
+pub fn assumed_state(assumed: &[u8]) -> Option<u64>
     ensures { result ≡ assumed_state assumed.now }
 {
     match value_in(assumed, b"state") {
-        Some(value) => number_in(assumed_states(), value),
+        Some(value) => state_named(value),
         None => None,
     }
 }
 
-/// Whether local addresses are assumed.
-pub(crate) fn knows_local(assumed: &[u8]) -> bool
+/// Whether local addresses are assumed. It takes no memory.
+pub fn knows_local(assumed: &[u8]) -> bool
     ensures { result ≡ knows_local assumed.now }
 {
     value_in(assumed, b"local").is_some()
@@ -125,11 +135,14 @@ pub(crate) fn put_locals(
     put_local(into, family, left)
 }
 
-/// Whether a word names interfaces: one, or with `+` at its end all that begin so.
-pub(crate) fn is_interface(word: &[u8]) -> bool
-    ensures { result ≡ is_interface word.now }
+/// Whether a word names interfaces: one, or with the wildcard byte at its end all that begin so.
+/// It takes no memory.
+///
+/// Source: iptables(8), "PARAMETERS", where the wildcard is `+`.
+pub fn is_interface(wildcard: u8, word: &[u8]) -> bool
+    ensures { result ≡ is_interface wildcard word.now }
 {
-    match split_once(word, b'+') {
+    match split_once(word, wildcard) {
         Some((beginning, after)) => after.is_empty() && is_name(beginning),
         None => is_name(word),
     }
@@ -142,11 +155,11 @@ fn is_name(text: &[u8]) -> bool
     text.len() <= MAX_NAME && !text.contains(&b'/') && !text.contains(&b'"')
 }
 
-/// Whether the interface of a name is one of those that a word names.
-pub(crate) fn meets_interface(word: &[u8], name: &[u8]) -> bool
-    ensures { result ≡ meets_interface word.now name.now }
+/// Whether the interface of a name is one of those that a word names. It takes no memory.
+pub fn meets_interface(wildcard: u8, word: &[u8], name: &[u8]) -> bool
+    ensures { result ≡ meets_interface wildcard word.now name.now }
 {
-    match split_once(word, b'+') {
+    match split_once(word, wildcard) {
         Some((beginning, _)) => has_beginning(name, beginning),
         None => word == name,
     }
@@ -246,7 +259,7 @@ fn assumes_state(part: &[u8]) -> bool
     ensures { result ≡ assumes_state part.now }
 {
     match value_said(part, b"state") {
-        Some(value) => number_in(assumed_states(), value).is_some(),
+        Some(value) => state_named(value).is_some(),
         None => false,
     }
 }

@@ -13,7 +13,7 @@ use std::marker::Model;
 /// The boxes of packets that a rule wants, and of those that it leaves out. Contracts see a record
 /// of both lists.
 #[derive(Drop)]
-pub(crate) struct Caught {
+pub struct Caught {
     kept: Vec<Packets>,
     left: Vec<Packets>,
 }
@@ -30,10 +30,10 @@ impl Caught {
     ghost use Rattle.std.specs.Prelude.{◌≡◌, ◌∷◌, [], IfOk, OnOk};
     ghost use Rattle.iptables_reader.specs.Packets.{all_caught, with_addresses, with_boxes};
     ghost use Rattle.iptables_reader.specs.Packets.{caught_destinations, caught_ports, caught_sources};
-    ghost use Rattle.iptables_reader.specs.Packets.{with_field, with_list};
+    ghost use Rattle.iptables_reader.specs.Packets.{never, with_field, with_list};
 
-    /// All packets of the family.
-    fn all(alloc: Global, family: Family) -> Result<Caught, AllocError>
+    /// All packets of the family. It takes the memory of a box.
+    pub fn all(alloc: Global, family: Family) -> Result<Caught, AllocError>
         ensures { IfOk result (λ caught. caught ≡ all_caught family) }
     {
         let mut kept = Vec::new(alloc);
@@ -43,7 +43,7 @@ impl Caught {
     }
 
     /// The boxes that are wanted.
-    pub(crate) fn kept(&self) -> &[Packets]
+    pub fn kept(&self) -> &[Packets]
         ensures { result.now ≡ self.now.kept }
     {
         self.kept.as_slice()
@@ -56,8 +56,14 @@ impl Caught {
         self.left.as_slice()
     }
 
-    /// The boxes of an option.
-    fn take(&mut self, alloc: Global, negated: bool, boxes: &[Packets]) -> Result<(), AllocError>
+    /// The boxes of a comparison: packets lie in one of them, or after a negation in none. It takes
+    /// the memory of what they have in common with those that are wanted.
+    pub fn take(
+        &mut self,
+        alloc: Global,
+        negated: bool,
+        boxes: &[Packets],
+    ) -> Result<(), AllocError>
         ensures { OnOk result (self.new ≡ with_boxes negated boxes.now self.old) }
     {
         if negated {
@@ -66,6 +72,13 @@ impl Caught {
         }
         self.kept = meets(alloc, &self.kept, boxes)?;
         Ok(())
+    }
+
+    /// None of the packets: no box is wanted any more. It takes no memory.
+    pub fn clear(&mut self)
+        ensures { self.new ≡ never self.old }
+    {
+        self.kept.clear();
     }
 
     /// An option on a field.

@@ -4,6 +4,9 @@
 //! and the words that belong to it. Whatever isn't known here is refused, so that no word of a list
 //! that is accepted is passed over.
 //!
+//! Other readers of lists stand on its boxes of packets, its spans of addresses, and what is
+//! assumed of packets.
+//!
 //! | module | what it holds |
 //! |---|---|
 //! | `values` | numbers, ports and addresses, as a word spells them |
@@ -53,7 +56,16 @@ mod table;
 mod tables;
 mod values;
 
-pub use assumed::is_assumption;
+pub use address_spans::put_set;
+pub use assumed::{
+    assumed_state, is_assumption, is_interface, knows_local, meets_interface, state_named, value_in,
+};
+pub use caught::Caught;
 pub use chain::SavedChain;
 pub use fault::{IptablesFault, LineFault, LineKind};
+pub use packets::{End, Field, Packets, all_packets, put_ends, put_rules, put_spans};
+pub use parts::AddressSet;
 pub use table::{Answers, Asked, MAX_LIST, chain_place, chains_alone, read_chains};
+pub use values::{
+    AddressRange, AddressSpans, address, address_alone, filled_range, most_bits, spans_of_address,
+};

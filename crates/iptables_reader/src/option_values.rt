@@ -198,7 +198,7 @@ impl Reading {
     fn with_interface(self, assumed: &[u8], way: Way, word: &[u8]) -> Result<Reading, LineKind>
         ensures { result ≡ values.with_interface assumed.now self way word.now }
     {
-        if !is_interface(word) {
+        if !is_interface(b'+', word) {
             return Err(LineKind::BadInterface);
         }
         Ok(
@@ -372,7 +372,7 @@ fn interface_met(assumed: &[u8], way: Way, word: &[u8]) -> Option<bool>
         Way::Out => value_in(assumed, b"out"),
     };
     match given {
-        Some(name) => Some(meets_interface(word, name)),
+        Some(name) => Some(meets_interface(b'+', word, name)),
         None => None,
     }
 }

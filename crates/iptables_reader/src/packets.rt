@@ -19,26 +19,36 @@ use std::alloc::{AllocError, Global};
 
 /// A box of packets: for each part of their keys the numbers from one to another.
 #[derive(Clone, Copy)]
-pub(crate) struct Packets {
-    pub(crate) protocol: Span,
-    pub(crate) source: AddressSpans,
-    pub(crate) destination: AddressSpans,
-    pub(crate) source_ports: Span,
-    pub(crate) destination_ports: Span,
+pub struct Packets {
+    /// The protocol above IP.
+    pub protocol: Span,
+    /// The address that packets come from.
+    pub source: AddressSpans,
+    /// The address that they go to.
+    pub destination: AddressSpans,
+    /// The port that they come from.
+    pub source_ports: Span,
+    /// The port that they go to.
+    pub destination_ports: Span,
 }
 
-/// A field of packets that an option compares with a span.
+/// A field of packets that is compared with a span.
 #[derive(Clone, Copy)]
-pub(crate) enum Field {
+pub enum Field {
+    /// The protocol above IP.
     Protocol,
+    /// The port that packets come from.
     SourcePorts,
+    /// The port that they go to.
     DestinationPorts,
 }
 
 /// An end of the way of packets.
 #[derive(Clone, Copy)]
-pub(crate) enum End {
+pub enum End {
+    /// Where they come from.
     Source,
+    /// Where they go to.
     Destination,
 }
 
@@ -70,7 +80,7 @@ const ANY_IP6: AddressSpans = AddressSpans {
 };
 
 /// All packets of a family.
-pub(crate) fn all_packets(family: Family) -> Packets
+pub fn all_packets(family: Family) -> Packets
     ensures { result ≡ all_packets family }
 {
     let addresses = match family {
@@ -129,8 +139,9 @@ pub(crate) fn with_span(all: Packets, field: Field, span: Span) -> Packets
     }
 }
 
-/// Puts the packets that have the numbers of each span in a field.
-fn put_spans(
+/// Puts boxes of those of some packets that have the numbers of each span in a field after others.
+/// It takes memory for one of each span.
+pub fn put_spans(
     into: &mut Vec<Packets>,
     all: Packets,
     field: Field,
@@ -209,8 +220,9 @@ pub(crate) fn end_boxes(
     Ok(boxes)
 }
 
-/// Puts the packets that come from addresses, or go to them.
-fn put_ends(
+/// Puts boxes of those of some packets that come from addresses, or go to them, after others. It
+/// takes memory for one of each span.
+pub fn put_ends(
     into: &mut Vec<Packets>,
     all: Packets,
     end: End,
@@ -266,9 +278,12 @@ fn boxes_of(alloc: Global, family: Family, all: &[Packets]) -> Result<Vec<SpanBo
     Ok(boxes)
 }
 
-/// Puts the rules of boxes after others: one for each that is wanted. It takes the memory of these
-/// rules.
-pub(crate) fn put_rules(
+/// Puts the rules of boxes over the fields of the family's layout after others: one for each that
+/// is wanted. It takes the memory of these rules.
+///
+/// The fields are the protocol, the source, the destination, and their ports. An address of IPv6 is
+/// two fields: its high half, and its low one.
+pub fn put_rules(
     alloc: Global,
     family: Family,
     caught: &Caught,

@@ -41,8 +41,10 @@ pub(crate) struct SpanPart {
 
 /// Which addresses an option names.
 #[derive(Clone, Copy)]
-pub(crate) enum AddressSet {
+pub enum AddressSet {
+    /// Those with a prefix.
     Network(AddressSpans),
+    /// Those from one to another.
     Range(AddressRange),
     /// Those that are assumed to be local.
     Local,

@@ -22,16 +22,20 @@ const MAX_PROTOCOL: u64 = 255;
 
 /// The spans of an address's two halves of 64 bits. An IPv4 address has the low one alone.
 #[derive(Clone, Copy)]
-pub(crate) struct AddressSpans {
-    pub(crate) high: Span,
-    pub(crate) low: Span,
+pub struct AddressSpans {
+    /// The numbers of the first 64 bits.
+    pub high: Span,
+    /// The numbers of the last 64 bits.
+    pub low: Span,
 }
 
 /// The addresses from one to another.
 #[derive(Clone, Copy)]
-pub(crate) struct AddressRange {
-    pub(crate) low: u128,
-    pub(crate) high: u128,
+pub struct AddressRange {
+    /// The first of them.
+    pub low: u128,
+    /// The last of them.
+    pub high: u128,
 }
 
 /// The number that a word spells in decimal, without leading zeros and at most so great.
@@ -124,7 +128,7 @@ pub(crate) fn protocol(word: &[u8]) -> Option<u64>
 }
 
 /// How many bits an address of the family has.
-fn most_bits(family: Family) -> u64
+pub fn most_bits(family: Family) -> u64
     ensures is { result ≡ most_bits family }
     ensures few { result ≤ 128 }
 {
@@ -141,21 +145,24 @@ pub(crate) fn network(family: Family, word: &[u8]) -> Option<AddressSpans>
     match split_once(word, b'/') {
         Some((text, bits)) => {
             let bits = plain_number(bits, most_bits(family))?;
-            address_spans(family, text, bits)
+            spans_of_address(family, text, bits)
         }
-        None => address_spans(family, word, most_bits(family)),
+        None => spans_of_address(family, word, most_bits(family)),
     }
 }
 
-/// The halves of an address alone.
-pub(crate) fn address_alone(family: Family, text: &[u8]) -> Option<AddressSpans>
+/// The halves of an address alone, whose text is that of [`address`]. It takes no memory.
+pub fn address_alone(family: Family, text: &[u8]) -> Option<AddressSpans>
     ensures { result ≡ address_alone family text.now }
 {
-    address_spans(family, text, most_bits(family))
+    spans_of_address(family, text, most_bits(family))
 }
 
-/// The number of an address.
-fn address(family: Family, text: &[u8]) -> Option<u128>
+/// The number of an address by its text: that of IPv4 as it is printed, without leading zeros, and
+/// any one of IPv6. It takes no memory.
+///
+/// Source: RFC 4291, 2.2 (address texts).
+pub fn address(family: Family, text: &[u8]) -> Option<u128>
     ensures { result ≡ address_of family text.now }
 {
     match family {
@@ -180,8 +187,8 @@ pub(crate) fn address_range(family: Family, word: &[u8]) -> Option<AddressRange>
     }
 }
 
-/// The addresses from one to another, if that isn't below the first.
-fn filled_range(low: u128, high: u128) -> Option<AddressRange>
+/// The addresses from one to another, if that isn't below the first. It takes no memory.
+pub fn filled_range(low: u128, high: u128) -> Option<AddressRange>
     ensures { result ≡ filled_range low high }
 {
     if low <= high {
@@ -191,8 +198,11 @@ fn filled_range(low: u128, high: u128) -> Option<AddressRange>
     }
 }
 
-/// The halves of an address, of which so many leading bits count.
-fn address_spans(family: Family, text: &[u8], bits: u64) -> Option<AddressSpans>
+/// The halves of an address, of which so many leading bits count: at most those that it has. Its
+/// text is that of [`address`]. It takes no memory.
+///
+/// Source: RFC 4632, 3.1, and RFC 4291, 2.3 (prefixes).
+pub fn spans_of_address(family: Family, text: &[u8], bits: u64) -> Option<AddressSpans>
     requires { bits ≤ most_bits family }
     ensures { result ≡ spans_of_address family text.now bits }
 {
