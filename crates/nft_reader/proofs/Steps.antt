@@ -1,42 +1,37 @@
 -- Loops over values of JSON: what the next one makes, and what is made where none is left.
-use Rattle.std.proofs.Common.{◌≡◌, ℕ, ◌+◌, List, [], ◌∷◌, ◌++◌, Some, None, Result, Ok, refl, ap, ◌∙◌}
+use Rattle.std.proofs.Common.{◌≡◌, ℕ, ◌+◌, List, [], ◌∷◌, ◌++◌, Option, Some, None, Result, Ok, refl, ap, ◌∙◌}
 use Rattle.json.specs.Json.{Json}
-use Rattle.list_chains.specs.declared.span.Span.{Span}
 use Rattle.nft_reader.specs.declared.fault.RuleKind.{RuleKind}
 use Rattle.nft_reader.specs.declared.fault.RuleStop.{RuleStop}
 use Rattle.nft_reader.specs.declared.fault.RuleStop.TheVariants as rule
 use Rattle.nft_reader.specs.declared.fault.ObjectKind.{ObjectKind}
 use Rattle.nft_reader.specs.declared.fault.Stop.{Stop}
 use Rattle.nft_reader.specs.declared.fault.Stop.TheVariants as stopped
-use Rattle.nft_reader.specs.declared.packets.Field.{Field}
 use Rattle.nft_reader.specs.Chains.{ListedChain}
 use Rattle.nft_reader.specs.Known.{Known, Question}
 use Rattle.nft_reader.specs.Readings.{◌>>=◌, ReadRule, with_statement, with_statements}
 use Rattle.nft_reader.specs.Ruleset.{object_then, with_object, with_objects}
 use Rattle.nft_reader.specs.Stops.{IsToldOf, Refuses, RefusesRule, fault_of}
-use Rattle.nft_reader.specs.Values.{span_of, span_then, spans_after}
+use Rattle.nft_reader.specs.Values.{gathered, made_then}
 
 -- ---- elements
 
--- an element that has no span
-pub span_none : (which : Field) (spans : List Span) (value : Json) (values : List Json) →
-    span_of which value ≡ None → spans_after which spans (value ∷ values) ≡ None
-unfolding spans_after
-span_none which spans value values none =
-    ap (λ it. span_then it (λ span. spans_after which (spans ++ span ∷ []) values)) none
+module _ {A : Type 0} (each : Json → Option (List A)) (so_far : List A) where
+  -- an element that makes nothing
+  pub made_none : (value : Json) (values : List Json) → each value ≡ None → gathered each so_far (value ∷ values) ≡ None
+  unfolding gathered
+  made_none value values none = ap (λ it. made_then it (λ made. gathered each (so_far ++ made) values)) none
 
--- one that has a span
-pub span_more : (which : Field) (spans : List Span) (value : Json) (values : List Json) (span : Span) →
-    span_of which value ≡ Some span →
-    spans_after which spans (value ∷ values) ≡ spans_after which (spans ++ span ∷ []) values
-unfolding spans_after
-span_more which spans value values span some =
-    ap (λ it. span_then it (λ found. spans_after which (spans ++ found ∷ []) values)) some
+  -- one that makes some
+  pub made_more : (value : Json) (values : List Json) (made : List A) → each value ≡ Some made →
+      gathered each so_far (value ∷ values) ≡ gathered each (so_far ++ made) values
+  unfolding gathered
+  made_more value values made some = ap (λ it. made_then it (λ found. gathered each (so_far ++ found) values)) some
 
--- none is left
-pub span_end : (which : Field) (spans : List Span) → spans_after which spans [] ≡ Some spans
-unfolding spans_after
-span_end which spans = refl
+  -- none is left
+  pub made_end : gathered each so_far [] ≡ Some so_far
+  unfolding gathered
+  made_end = refl
 
 -- ---- statements
 

@@ -1,5 +1,8 @@
 -- Values of JSON, level by level.
-use Rattle.std.proofs.Common.{◌≡◌, ◌≢◌, ℕ, suc, List, [], ◌∷◌, length, map, Some, None, get_or, arith, refl, ap}
+use Rattle.std.proofs.Common.{◌≡◌, ◌≢◌, ℕ, suc, List, [], ◌∷◌, length, map, Some, None, get_or, arith, refl, ap, Bool, ◌||◌}
+use Rattle.std.specs.List.{list_all, list_any}
+use Rattle.std.proofs.lemmas.List.Folds.{list_all-map}
+use Rattle.json.specs.Json.{Json}
 use Rattle.std.specs.Borrow.{Bor}
 use Rattle.json.specs.Value.{value_view, items_view, members_view}
 use Rattle.json.specs.declared.value.Value.{Value}
@@ -31,3 +34,14 @@ pub the_only : {A : Type 0} (members : List (Bor (List ℕ) × Value A)) (other 
 the_only [] other alone = absurd (omega (arith, alone))
 the_only (member ∷ []) other alone = refl
 the_only (member ∷ next ∷ members) other alone = absurd (omega (arith, alone))
+
+-- all views of values pass a test where the values do
+pub all_views : {A : Type 0} (p : Json → Bool) (values : List (Value A)) →
+    list_all p (map value_view values) ≡ list_all (λ value. p (value_view value)) values
+all_views p values = list_all-map p value_view values
+
+-- and one of them does where one of the values does
+pub any_view : {A : Type 0} (p : Json → Bool) (values : List (Value A)) →
+    list_any p (map value_view values) ≡ list_any (λ value. p (value_view value)) values
+any_view p [] = refl
+any_view p (value ∷ values) = ap (λ more. p (value_view value) || more) (any_view p values)

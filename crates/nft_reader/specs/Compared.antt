@@ -1,24 +1,36 @@
 -- What a comparison compares (libnftables-json(5), "match", "payload" and "meta"). The packets are
--- of IPv4: what is in the header of IPv6 none of them has.
+-- of one family: what is in the header of the other none of them has.
 use Rattle.std.specs.Prelude.{ℕ, ◌==◌, Bool, true, false, if◌then◌else◌, codes, List}
 use Rattle.std.specs.Prelude.{Option, Some, None, option_and_then}
 use Rattle.std.specs.Option.{option_map}
 use Rattle.std.specs.Str.{bytes_eq}
 use Rattle.json.specs.Json.{Json}
 use Rattle.json.specs.Find.{get}
-use Rattle.nft_reader.specs.declared.packets.Field.{Field}
-use Rattle.nft_reader.specs.declared.packets.Field.TheVariants as field
+use Rattle.field_defs.specs.declared.field.Family.{Family}
+use Rattle.field_defs.specs.declared.field.Family.TheVariants as family
+use Rattle.iptables_reader.specs.declared.packets.End.TheVariants as end
+use Rattle.iptables_reader.specs.declared.packets.Field.{Field}
+use Rattle.iptables_reader.specs.declared.packets.Field.TheVariants as field
 use Rattle.nft_reader.specs.declared.compared.Left.{Left}
 use Rattle.nft_reader.specs.declared.compared.Left.TheVariants as left
+use Rattle.nft_reader.specs.declared.compared.Naming.TheVariants as naming
+use Rattle.nft_reader.specs.declared.compared.Operator.{Operator}
+use Rattle.nft_reader.specs.declared.compared.Operator.TheVariants as operator
+use Rattle.nft_reader.specs.declared.compared.Way.TheVariants as way
 use Rattle.nft_reader.specs.Shapes.{len_of, only, text_in}
 use Rattle.nft_reader.specs.Values.{ported_named}
 
+-- an address of the header
+abbrev pub address_field : List ℕ → Option Left
+address_field name =
+    if bytes_eq name (codes "saddr") then Some (left.Address end.Source)
+    else (if bytes_eq name (codes "daddr") then Some (left.Address end.Destination) else None)
+
 -- a field of the header of IPv4
-abbrev pub ip_field : List ℕ → Option Left
-ip_field name =
-    if bytes_eq name (codes "saddr") then Some (left.Plain field.Source)
-    else (if bytes_eq name (codes "daddr") then Some (left.Plain field.Destination)
-    else (if bytes_eq name (codes "protocol") then Some (left.Plain field.Protocol) else None))
+abbrev pub ip4_field : List ℕ → Option Left
+ip4_field name =
+    if bytes_eq name (codes "protocol") then Some (left.Plain field.Protocol)
+    else address_field name
 
 -- the ports of one side
 abbrev pub port_field : List ℕ → Option Field
@@ -32,47 +44,93 @@ ports_of protocol name =
     option_and_then (λ number. option_map (left.Ports number) (port_field name))
     (ported_named protocol)
 
--- a field of a header
-abbrev pub payload_field : List ℕ → List ℕ → Option Left
-payload_field protocol name =
-    if bytes_eq protocol (codes "ip") then ip_field name
+-- a field of a header, of IPv4 packets
+abbrev pub ip4_payload : List ℕ → List ℕ → Option Left
+ip4_payload protocol name =
+    if bytes_eq protocol (codes "ip") then ip4_field name
     else (if bytes_eq protocol (codes "ip6") then Some left.OtherFamily else ports_of protocol name)
 
+-- the same of IPv6 packets
+abbrev pub ip6_payload : List ℕ → List ℕ → Option Left
+ip6_payload protocol name =
+    if bytes_eq protocol (codes "ip6") then address_field name
+    else (if bytes_eq protocol (codes "ip") then Some left.OtherFamily else ports_of protocol name)
+
+-- a field of a header
+abbrev pub payload_field : Family → List ℕ → List ℕ → Option Left
+payload_field family.Ip4 protocol name = ip4_payload protocol name
+payload_field family.Ip6 protocol name = ip6_payload protocol name
+
 -- what a comparison of a header compares
-abbrev pub payload_of : Json → Option Left
-payload_of said =
+abbrev pub payload_of : Family → Json → Option Left
+payload_of family said =
     if len_of said == 2
     then option_and_then (λ protocol.
-    option_and_then (payload_field protocol) (text_in (codes "field") said))
+    option_and_then (payload_field family protocol) (text_in (codes "field") said))
     (text_in (codes "protocol") said)
     else None
+
+-- an interface
+abbrev pub interface_key : List ℕ → Option Left
+interface_key key =
+    if bytes_eq key (codes "iif") then Some (left.Interface way.In naming.Index)
+    else (if bytes_eq key (codes "iifname") then Some (left.Interface way.In naming.Name)
+    else (if bytes_eq key (codes "oif") then Some (left.Interface way.Out naming.Index)
+    else (if bytes_eq key (codes "oifname") then Some (left.Interface way.Out naming.Name)
+    else None)))
 
 -- what is known of a packet beside its bytes
 abbrev pub meta_key : List ℕ → Option Left
 meta_key key =
     if bytes_eq key (codes "l4proto") then Some (left.Plain field.Protocol)
-    else (if bytes_eq key (codes "nfproto") then Some left.Nfproto else None)
+    else (if bytes_eq key (codes "nfproto") then Some left.Nfproto else interface_key key)
 
 -- what a comparison of that compares
 abbrev pub meta_of : Json → Option Left
 meta_of said =
     if len_of said == 1 then option_and_then meta_key (text_in (codes "key") said) else None
 
+-- what is known of a connection
+abbrev pub connection_key : List ℕ → Option Left
+connection_key key = if bytes_eq key (codes "state") then Some left.State else None
+
+-- what a comparison of that compares
+abbrev pub connection_of : Json → Option Left
+connection_of said =
+    if len_of said == 1 then option_and_then connection_key (text_in (codes "key") said) else None
+
 -- the left side of a comparison by its name
-abbrev pub left_named : List ℕ → Json → Option Left
-left_named name said =
-    if bytes_eq name (codes "payload") then payload_of said
-    else (if bytes_eq name (codes "meta") then meta_of said else None)
+abbrev pub left_named : Family → List ℕ → Json → Option Left
+left_named family name said =
+    if bytes_eq name (codes "payload") then payload_of family said
+    else (if bytes_eq name (codes "meta") then meta_of said
+    else (if bytes_eq name (codes "ct") then connection_of said else None))
 
 -- the left side of a comparison
-abbrev pub left_of : Json → Option Left
-left_of value = option_and_then (λ found. left_named found.0 found.1) (only value)
+abbrev pub left_of : Family → Json → Option Left
+left_of family value = option_and_then (λ found. left_named family found.0 found.1) (only value)
 
--- whether a comparison is one for inequality
-abbrev pub is_negated : List ℕ → Option Bool
-is_negated operator =
-    if bytes_eq operator (codes "==") then Some false
-    else (if bytes_eq operator (codes "!=") then Some true else None)
+-- the operator of a comparison: `in` and `!` test bits
+abbrev pub operator_named : List ℕ → Option Operator
+operator_named name =
+    if bytes_eq name (codes "==") then Some operator.Equal
+    else (if bytes_eq name (codes "!=") then Some operator.Unequal
+    else (if bytes_eq name (codes "in") then Some operator.In
+    else (if bytes_eq name (codes "!") then Some operator.NotIn else None)))
+
+-- whether a comparison for equality is turned
+abbrev pub is_negated : Operator → Option Bool
+is_negated operator.Equal = Some false
+is_negated operator.Unequal = Some true
+is_negated operator.In = None
+is_negated operator.NotIn = None
+
+-- whether a comparison of states is turned, of which each is one bit
+abbrev pub is_turned : Operator → Bool
+is_turned operator.Equal = false
+is_turned operator.Unequal = true
+is_turned operator.In = false
+is_turned operator.NotIn = true
 
 -- whether a family of packets is IPv4
 abbrev pub is_ip4 : List ℕ → Option Bool
@@ -83,16 +141,16 @@ is_ip4 name =
 -- the sides of a comparison
 pub record MatchSides : Type 0 where
   pub side : Left
-  pub negated : Bool
+  pub operator : Operator
   pub right : Json
 
--- both sides, and whether it is one for inequality
-abbrev pub sides_of : Json → Option MatchSides
-sides_of said =
+-- both sides, and the operator
+abbrev pub sides_of : Family → Json → Option MatchSides
+sides_of family said =
     if len_of said == 3
-    then option_and_then (λ side. option_and_then (λ negated.
-    option_map (λ right. record { side = side; negated = negated; right = right })
+    then option_and_then (λ side. option_and_then (λ compares.
+    option_map (λ right. record { side = side; operator = compares; right = right })
     (get (codes "right") said))
-    (option_and_then is_negated (text_in (codes "op") said)))
-    (option_and_then left_of (get (codes "left") said))
+    (option_and_then operator_named (text_in (codes "op") said)))
+    (option_and_then (left_of family) (get (codes "left") said))
     else None

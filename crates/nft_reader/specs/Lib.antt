@@ -1,7 +1,8 @@
 pub mod Shapes
-pub mod Packets
 pub mod Values
+pub mod Addresses
 pub mod Compared
+pub mod Assumed
 pub mod Chains
 pub mod Known
 pub mod Readings

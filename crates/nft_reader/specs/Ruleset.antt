@@ -1,13 +1,16 @@
 -- A ruleset as `nft -j list ruleset` prints it (libnftables-json(5), "RULESET ELEMENTS"): objects
--- of tables, chains, rules and others. The chains are those of the families ip and inet. A rule that
--- no rule file says leads to no chain, so that a chain whose packets come to it isn't turned into
--- rules.
+-- of tables, chains, rules and others. The chains are those of inet, and by the family of packets
+-- of ip or ip6. A rule that no rule file says leads to no chain, so that a chain whose packets
+-- come to it isn't turned into rules.
 use Rattle.std.specs.Prelude.{ℕ, ◌+◌, ◌-◌, ◌^◌, ◌==◌, Bool, false, ◌&&◌, ◌||◌, nat_lt, is_some}
 use Rattle.std.specs.Prelude.{if◌then◌else◌, codes, slice_set, slice_index_or, length}
 use Rattle.std.specs.Prelude.{List, [], ◌∷◌, ◌++◌, Option, Some, None, option_and_then, Result, Ok, Err}
 use Rattle.std.specs.Str.{bytes_eq, is_utf8}
 use Rattle.json.specs.Json.{Json, document}
 use Rattle.json.specs.Find.{get}
+use Rattle.field_defs.specs.declared.field.Family.{Family}
+use Rattle.field_defs.specs.declared.field.Family.TheVariants as family
+use Rattle.iptables_reader.specs.Packets.{all_caught, rules_of_caught}
 use Rattle.list_chains.specs.declared.span.Span.{Span}
 use Rattle.list_chains.specs.declared.chain.Target.{Target}
 use Rattle.list_chains.specs.declared.chain.Target.TheVariants as target
@@ -26,7 +29,6 @@ use Rattle.nft_reader.specs.declared.known.Asked.{Asked}
 use Rattle.nft_reader.specs.declared.ruleset.TheConstants.{MAX_RULESET}
 use Rattle.nft_reader.specs.Chains.{ListedChain, Names, no_chain, place_of}
 use Rattle.nft_reader.specs.Known.{Known, Question}
-use Rattle.nft_reader.specs.Packets.{all_caught, rules_of}
 use Rattle.nft_reader.specs.Readings.{◌>>=◌, ReadRule, no_reading, with_statements}
 use Rattle.nft_reader.specs.Shapes.{items_in, items_of, len_of, number_in, only, text_in}
 
@@ -87,27 +89,30 @@ with_fault handle why chain =
     record chain { faults = chain.faults ++ record { handle = handle; kind = why } ∷ [] }
 
 -- a rule does what it says, unless there is a cause why no rule file says it
-abbrev pub with_done : Answers → ℕ → ReadRule → Act → Option RuleKind → ListedChain → ListedChain
+abbrev pub with_done : Asked → ℕ → ReadRule → Act → Option RuleKind → ListedChain → ListedChain
 with_done asked handle reading does None chain =
-    more_rules (rules_of reading.caught (act_answer asked handle does) (act_target does)) chain
+    more_rules (rules_of_caught asked.family reading.caught (act_answer asked.answers handle does)
+    (act_target does)) chain
 with_done asked handle reading does (Some why) chain =
-    with_fault handle why (more_rules (rules_of reading.caught handle nowhere) chain)
+    with_fault handle why
+    (more_rules (rules_of_caught asked.family reading.caught handle nowhere) chain)
 
 -- a rule without a verdict does nothing: the next one decides
-abbrev pub with_said : Answers → ℕ → ReadRule → Option Act → ListedChain → ListedChain
+abbrev pub with_said : Asked → ℕ → ReadRule → Option Act → ListedChain → ListedChain
 with_said asked handle reading None chain = chain
 with_said asked handle reading (Some does) chain =
     with_done asked handle reading does reading.cause chain
 
 -- a rule that isn't read, of which nothing is known
-abbrev pub with_unread : ℕ → RuleKind → ListedChain → ListedChain
-with_unread handle why chain =
-    with_fault handle why (more_rules (rules_of all_caught handle nowhere) chain)
+abbrev pub with_unread : Family → ℕ → RuleKind → ListedChain → ListedChain
+with_unread family handle why chain =
+    with_fault handle why
+    (more_rules (rules_of_caught family (all_caught family) handle nowhere) chain)
 
 -- a rule that was read, or why it isn't
-abbrev pub with_read : Answers → ℕ → Result ReadRule RuleKind → ListedChain → ListedChain
+abbrev pub with_read : Asked → ℕ → Result ReadRule RuleKind → ListedChain → ListedChain
 with_read asked handle (Ok reading) chain = with_said asked handle reading reading.act chain
-with_read asked handle (Err why) chain = with_unread handle why chain
+with_read asked handle (Err why) chain = with_unread asked.family handle why chain
 
 -- a part of an object that is there, or else its fault
 abbrev pub or_fault : {A : Type 0} → ObjectKind → Option A → Result A ObjectKind
@@ -154,9 +159,9 @@ parts_of_rule family said =
 abbrev pub with_rule_at : Question → RuleParts → List ListedChain → ℕ → List ListedChain
 with_rule_at question parts chains place =
     slice_set chains place
-    (with_read question.asked.answers parts.handle
+    (with_read question.asked parts.handle
     (with_statements (record { question = question; chains = chains; owner = parts.owner })
-    no_reading parts.statements)
+    (no_reading question.asked.family) parts.statements)
     (slice_index_or chains place no_chain))
 
 -- the chains with a rule, whose chain stands before it
@@ -241,9 +246,10 @@ with_chain question chains family said =
 
 -- ---- objects
 
--- chains and rules of these families are read
-abbrev pub is_read : List ℕ → Bool
-is_read family = bytes_eq family (codes "ip") || bytes_eq family (codes "inet")
+-- packets of a family come to tables of one of a name
+abbrev pub is_read : Family → List ℕ → Bool
+is_read family.Ip4 name = bytes_eq name (codes "ip") || bytes_eq name (codes "inet")
+is_read family.Ip6 name = bytes_eq name (codes "ip6") || bytes_eq name (codes "inet")
 
 -- a table has flags
 abbrev pub has_flags : Json → Bool
@@ -264,15 +270,15 @@ is_silent name =
 abbrev pub with_chain_object : Question → List ListedChain → Json →
     Result (List ListedChain) ObjectKind
 with_chain_object question chains said =
-    or_fault object.NoFamily (text_in (codes "family") said) >>= λ family.
-    if is_read family then with_chain question chains family said else Ok chains
+    or_fault object.NoFamily (text_in (codes "family") said) >>= λ name.
+    if is_read question.asked.family name then with_chain question chains name said else Ok chains
 
 -- a rule of such a family
 abbrev pub with_rule_object : Question → List ListedChain → Json →
     Result (List ListedChain) ObjectKind
 with_rule_object question chains said =
-    or_fault object.NoFamily (text_in (codes "family") said) >>= λ family.
-    if is_read family then with_rule question chains family said else Ok chains
+    or_fault object.NoFamily (text_in (codes "family") said) >>= λ name.
+    if is_read question.asked.family name then with_rule question chains name said else Ok chains
 
 -- an object by its name
 abbrev pub with_named_object : Question → List ListedChain → List ℕ → Json →

@@ -5,6 +5,8 @@ use Rattle.std.specs.Fmt.{digits}
 use Rattle.std.specs.Str.{chars, is_utf8}
 use Rattle.json.proofs.OnLiterals.{json_on_literals}
 use Rattle.json.specs.Json.{document}
+use Rattle.field_defs.specs.declared.field.Family.TheVariants as family
+use Rattle.iptables_reader.specs.Tables.{assumed_state_table}
 use Rattle.list_chains.specs.declared.chain.Target.{Target}
 use Rattle.list_chains.specs.declared.chain.Target.TheVariants.{Decide, Return, Jump}
 use Rattle.list_chains.specs.declared.span.Span.{Span}
@@ -14,11 +16,12 @@ use Rattle.nft_reader.specs.declared.known.Asked.{Asked}
 use Rattle.nft_reader.specs.declared.fault.ObjectFault.{ObjectFault}
 use Rattle.nft_reader.specs.declared.fault.ObjectKind.TheVariants as object
 use Rattle.nft_reader.specs.declared.fault.RuleFault.{RuleFault}
+use Rattle.nft_reader.specs.declared.fault.RuleKind.{RuleKind}
 use Rattle.nft_reader.specs.declared.fault.RuleKind.TheVariants as kind
 use Rattle.nft_reader.specs.Chains.{ListedChain, Names}
 use Rattle.nft_reader.specs.Readings.{with_statements}
 use Rattle.nft_reader.specs.Ruleset.{chains_of, chains_of_document, nowhere, with_objects}
-use Rattle.nft_reader.specs.Values.{spans_after}
+use Rattle.nft_reader.specs.Values.{gathered}
 
 -- the numbers from one to another
 infixl 20 ◌to◌
@@ -82,24 +85,40 @@ with_rules rules faults =
     Ok (record { owner = named (codes "web"); policy = None; rules = []; faults = [] }
     ∷ record { owner = named (codes "in"); policy = Some 2; rules = rules; faults = faults } ∷ [])
 
--- answers that are handles
+-- answers that are handles, for IPv4 packets and for those of IPv6
 abbrev handles : Asked
-handles = record { answers = answers.Handle }
+handles = record { family = family.Ip4; answers = answers.Handle }
 
--- what a text says that is UTF-8
+abbrev handles6 : Asked
+handles6 = record { family = family.Ip6; answers = answers.Handle }
+
+-- what a text says that is UTF-8, with such answers, under what is assumed
+abbrev read_as : Asked → List ℕ → List ℕ → Result (List ListedChain) ObjectFault
+read_as asked assumed bytes =
+    chains_of_document (record { asked = asked; assumed = assumed }) (document bytes)
+
+-- the same for IPv4 packets, of which nothing is assumed
 abbrev read : List ℕ → Result (List ListedChain) ObjectFault
-read bytes = chains_of_document (record { asked = handles; assumed = [] }) (document bytes)
+read bytes = read_as handles [] bytes
 
--- what a rule of the chain in says
+-- what a rule of the chain in says, under what is assumed
+abbrev said_under : List ℕ → List ℕ → Result (List ListedChain) ObjectFault
+said_under assumed statements = read_as handles assumed (declarations ++ rule_of statements)
+
+-- what it says for IPv6 packets
+abbrev said6 : List ℕ → Result (List ListedChain) ObjectFault
+said6 statements = read_as handles6 [] (declarations ++ rule_of statements)
+
+-- and for IPv4 packets, of which nothing is assumed
 abbrev said : List ℕ → Result (List ListedChain) ObjectFault
-said statements = read (declarations ++ rule_of statements)
+said statements = said_under [] statements
 
 -- ip saddr 10.0.0.1 accept
 an_address : said
     (codes "{\"match\": {\"op\": \"==\", \"left\": {\"payload\": {\"protocol\": \"ip\", \"field\": "
     ++ codes "\"saddr\"}}, \"right\": \"10.0.0.1\"}}, {\"accept\": null}")
     ≡ with_rules (rule 7 Decide (all ∷ (167772161 to 167772161) ∷ any ∷ ports ∷ ports ∷ []) ∷ []) []
-unfolding json_on_literals with_statements with_objects spans_after digits
+unfolding json_on_literals with_statements with_objects gathered digits
 an_address = refl
 
 -- ip daddr != 192.168.0.0/16 drop
@@ -108,7 +127,7 @@ a_prefix_of_other_addresses : said
     ++ codes "\"daddr\"}}, \"right\": {\"prefix\": {\"addr\": \"192.168.0.0\", \"len\": 16}}}}, "
     ++ codes "{\"drop\": null}")
     ≡ with_rules (all_but (all ∷ any ∷ (3232235520 to 3232301055) ∷ ports ∷ ports ∷ []) ∷ []) []
-unfolding json_on_literals with_statements with_objects spans_after digits
+unfolding json_on_literals with_statements with_objects gathered digits
 a_prefix_of_other_addresses = refl
 
 -- tcp dport { 22, 1000-2000 } counter jump web
@@ -118,7 +137,7 @@ ports_of_tcp : said
     ++ codes "{\"counter\": {\"packets\": 0, \"bytes\": 0}}, {\"jump\": {\"target\": \"web\"}}")
     ≡ with_rules (rule 7 (Jump 0) (tcp ∷ any ∷ any ∷ ports ∷ (22 to 22) ∷ [])
     ∷ rule 7 (Jump 0) (tcp ∷ any ∷ any ∷ ports ∷ (1000 to 2000) ∷ []) ∷ []) []
-unfolding json_on_literals with_statements with_objects spans_after digits
+unfolding json_on_literals with_statements with_objects gathered digits
 ports_of_tcp = refl
 
 -- meta l4proto { icmp, 99 } return
@@ -127,7 +146,7 @@ protocols : said
     ++ codes "{\"set\": [\"icmp\", 99]}}}, {\"return\": null}")
     ≡ with_rules (rule 7 Return ((1 to 1) ∷ any ∷ any ∷ ports ∷ ports ∷ [])
     ∷ rule 7 Return ((99 to 99) ∷ any ∷ any ∷ ports ∷ ports ∷ []) ∷ []) []
-unfolding json_on_literals with_statements with_objects spans_after digits
+unfolding json_on_literals with_statements with_objects gathered digits
 protocols = refl
 
 -- ip6 saddr fe80::/10 ct state new accept: no IPv4 packet is caught
@@ -136,21 +155,56 @@ packets_of_ip6 : said
     ++ codes "\"saddr\"}}, \"right\": {\"prefix\": {\"addr\": \"fe80::\", \"len\": 10}}}}, "
     ++ codes "{\"accept\": null}")
     ≡ with_rules [] []
-unfolding json_on_literals with_statements with_objects spans_after digits
+unfolding json_on_literals with_statements with_objects gathered digits
 packets_of_ip6 = refl
+
+-- all halves of addresses, and the boxes of an address of IPv6 packets
+abbrev half : Span
+half = 0 to 18446744073709551615
+
+abbrev from6 : Span → Span → List Span
+from6 high low = all ∷ high ∷ low ∷ half ∷ half ∷ ports ∷ ports ∷ []
+
+-- the same of IPv6 packets: the high halves from fe80:: to febf:ffff:ffff:ffff::
+packets_from_ip6 : said6
+    (codes "{\"match\": {\"op\": \"==\", \"left\": {\"payload\": {\"protocol\": \"ip6\", \"field\": "
+    ++ codes "\"saddr\"}}, \"right\": {\"prefix\": {\"addr\": \"fe80::\", \"len\": 10}}}}, "
+    ++ codes "{\"accept\": null}")
+    ≡ with_rules
+    (rule 7 Decide (from6 (18338657682652659712 to 18356672081162141695) half) ∷ []) []
+unfolding json_on_literals with_statements with_objects gathered digits
+packets_from_ip6 = refl
+
+-- ip6 saddr { ::1, ::5-::9 } accept
+addresses_of_ip6 : said6
+    (codes "{\"match\": {\"op\": \"==\", \"left\": {\"payload\": {\"protocol\": \"ip6\", \"field\": "
+    ++ codes "\"saddr\"}}, \"right\": {\"set\": [\"::1\", {\"range\": [\"::5\", \"::9\"]}]}}}, "
+    ++ codes "{\"accept\": null}")
+    ≡ with_rules (rule 7 Decide (from6 (0 to 0) (1 to 1))
+    ∷ rule 7 Decide (from6 (0 to 0) (5 to 9)) ∷ []) []
+unfolding json_on_literals with_statements with_objects gathered digits
+addresses_of_ip6 = refl
+
+-- ip saddr 10.0.0.1 accept: no IPv6 packet is caught
+packets_of_ip4 : said6
+    (codes "{\"match\": {\"op\": \"==\", \"left\": {\"payload\": {\"protocol\": \"ip\", \"field\": "
+    ++ codes "\"saddr\"}}, \"right\": \"10.0.0.1\"}}, {\"accept\": null}")
+    ≡ with_rules [] []
+unfolding json_on_literals with_statements with_objects gathered digits
+packets_of_ip4 = refl
 
 -- reject with tcp reset, which in a table of the family ip shows no comparison with TCP
 a_reset : said
     (codes "{\"reject\": {\"type\": \"tcp reset\"}}")
     ≡ with_rules (rule 7 Decide (tcp ∷ any ∷ any ∷ ports ∷ ports ∷ []) ∷ []) []
-unfolding json_on_literals with_statements with_objects spans_after digits
+unfolding json_on_literals with_statements with_objects gathered digits
 a_reset = refl
 
 -- reject with icmpv6 type port-unreachable
 a_message_of_ip6 : said
     (codes "{\"reject\": {\"type\": \"icmpv6\", \"expr\": \"port-unreachable\"}}")
     ≡ with_rules [] []
-unfolding json_on_literals with_statements with_objects spans_after digits
+unfolding json_on_literals with_statements with_objects gathered digits
 a_message_of_ip6 = refl
 
 -- tcp dport 25 log: the next rule decides
@@ -158,30 +212,96 @@ only_a_log : said
     (codes "{\"match\": {\"op\": \"==\", \"left\": {\"payload\": {\"protocol\": \"tcp\", \"field\": "
     ++ codes "\"dport\"}}, \"right\": 25}}, {\"log\": null}")
     ≡ with_rules [] []
-unfolding json_on_literals with_statements with_objects spans_after digits
+unfolding json_on_literals with_statements with_objects gathered digits
 only_a_log = refl
 
+-- a comparison of the state of a connection, and accept
+abbrev of_state : List ℕ → List ℕ → List ℕ
+of_state operator right =
+    codes "{\"match\": {\"op\": " ++ operator ++ codes ", \"left\": {\"ct\": {\"key\": "
+    ++ codes "\"state\"}}, \"right\": " ++ right ++ codes "}}, {\"accept\": null}"
+
+-- one of the key of an interface
+abbrev of_interface : List ℕ → List ℕ → List ℕ → List ℕ
+of_interface operator key right =
+    codes "{\"match\": {\"op\": " ++ operator ++ codes ", \"left\": {\"meta\": {\"key\": "
+    ++ key ++ codes "}}, \"right\": " ++ right ++ codes "}}, {\"accept\": null}"
+
+-- a rule that accepts all packets, and a cause why no rule file says it
+abbrev accepts : Result (List ListedChain) ObjectFault
+accepts = with_rules (rule 7 Decide everything ∷ []) []
+
+abbrev unsaid_by : RuleKind → Result (List ListedChain) ObjectFault
+unsaid_by why = with_rules (unsaid ∷ []) (record { handle = 7; kind = why } ∷ [])
+
 -- ct state new accept: it leads to no chain, and its cause is told
-a_state : said
-    (codes "{\"match\": {\"op\": \"in\", \"left\": {\"ct\": {\"key\": \"state\"}}, \"right\": "
-    ++ codes "\"new\"}}, {\"accept\": null}")
-    ≡ with_rules (unsaid ∷ []) (record { handle = 7; kind = kind.CantSay } ∷ [])
-unfolding json_on_literals with_statements with_objects spans_after digits
+a_state : said (of_state (codes "\"in\"") (codes "\"new\"")) ≡ unsaid_by kind.NeedsState
+unfolding json_on_literals with_statements with_objects digits assumed_state_table
 a_state = refl
+
+-- ct state established,related accept
+a_list_of_states : said_under (codes "state=related")
+    (of_state (codes "\"in\"") (codes "[\"established\", \"related\"]")) ≡ accepts
+unfolding json_on_literals with_statements with_objects digits assumed_state_table
+a_list_of_states = refl
+
+-- ct state { invalid, new } accept
+other_states : said_under (codes "in=lo,state=related")
+    (of_state (codes "\"==\"") (codes "{\"set\": [\"invalid\", \"new\"]}")) ≡ with_rules [] []
+unfolding json_on_literals with_statements with_objects digits assumed_state_table
+other_states = refl
+
+-- ct state & (invalid | new) == 0 accept
+none_of_the_states : said_under (codes "state=related")
+    (of_state (codes "\"!\"") (codes "[\"invalid\", \"new\"]")) ≡ accepts
+unfolding json_on_literals with_statements with_objects digits assumed_state_table
+none_of_the_states = refl
+
+-- ct state == invalid | new accept, which no connection has
+both_states : said_under (codes "state=new")
+    (of_state (codes "\"==\"") (codes "{\"|\": [\"invalid\", \"new\"]}")) ≡ unsaid_by kind.CantSay
+unfolding json_on_literals with_statements with_objects digits assumed_state_table
+both_states = refl
+
+-- iif lo accept
+no_interface : said (of_interface (codes "\"==\"") (codes "\"iif\"") (codes "\"lo\""))
+    ≡ unsaid_by kind.NeedsInterface
+unfolding json_on_literals with_statements with_objects
+no_interface = refl
+
+-- the same of packets of another one
+other_interface : said_under (codes "in=eth0")
+    (of_interface (codes "\"==\"") (codes "\"iif\"") (codes "\"lo\"")) ≡ with_rules [] []
+unfolding json_on_literals with_statements with_objects
+other_interface = refl
+
+-- iifname { "lo", "eth*" } accept
+an_interface : said_under (codes "in=eth0")
+    (of_interface (codes "\"==\"") (codes "\"iifname\"") (codes "{\"set\": [\"lo\", \"eth*\"]}"))
+    ≡ accepts
+unfolding json_on_literals with_statements with_objects
+an_interface = refl
+
+-- oifname != "eth\*" accept: a name with a `*` in it isn't read
+a_starred_name : said_under (codes "out=eth0")
+    (of_interface (codes "\"!=\"") (codes "\"oifname\"") (codes "\"eth\\\\*\""))
+    ≡ unsaid_by kind.CantSay
+unfolding json_on_literals with_statements with_objects
+a_starred_name = refl
 
 -- queue to 0
 a_queue : said
     (codes "{\"queue\": {\"num\": 0}}")
-    ≡ with_rules (unsaid ∷ []) (record { handle = 7; kind = kind.UnknownStatement } ∷ [])
-unfolding json_on_literals with_statements with_objects spans_after digits
+    ≡ unsaid_by kind.UnknownStatement
+unfolding json_on_literals with_statements with_objects gathered digits
 a_queue = refl
 
 -- ip saddr @blocked drop
 a_set_of_the_ruleset : said
     (codes "{\"match\": {\"op\": \"==\", \"left\": {\"payload\": {\"protocol\": \"ip\", \"field\": "
     ++ codes "\"saddr\"}}, \"right\": \"@blocked\"}}, {\"drop\": null}")
-    ≡ with_rules (unsaid ∷ []) (record { handle = 7; kind = kind.CantSay } ∷ [])
-unfolding json_on_literals with_statements with_objects spans_after digits
+    ≡ unsaid_by kind.CantSay
+unfolding json_on_literals with_statements with_objects gathered digits
 a_set_of_the_ruleset = refl
 
 -- an object that isn't known is refused, by its number

@@ -5,10 +5,11 @@ ghost use Rattle.nft_reader.specs.Chains.{names_of, place_of, start_from, start_
 ghost use Rattle.nft_reader.specs.Ruleset.{act_answer, act_target, answer_of, nowhere};
 ghost use Rattle.nft_reader.specs.Ruleset.{verdict_answer};
 
-use crate::caught::Caught;
 use crate::fault::{RuleFault, RuleKind, StartFault};
-use crate::known::Answers;
+use crate::known::{Answers, Asked};
 use crate::reading::{Act, Reading, Verdict};
+use field_defs::Family;
+use iptables_reader::{Caught, put_rules};
 use list_chains::{Chain, ChainRule, Target};
 use std::alloc::{AllocError, Global};
 use std::marker::Model;
@@ -53,7 +54,7 @@ impl Model for NftChain {
 impl NftChain {
     ghost use Rattle.std.specs.Prelude.{◌≡◌, [], IfOk, OnOk};
     ghost use Rattle.nft_reader.specs.Chains.{is_meant, is_same, is_start, names_of};
-    ghost use Rattle.nft_reader.specs.Packets.{all_caught, rules_of};
+    ghost use Rattle.iptables_reader.specs.Packets.{all_caught, rules_of_caught};
     ghost use Rattle.nft_reader.specs.Ruleset.{more_rules, with_fault, with_said, with_unread};
 
     /// A chain of this name and this policy, without rules. It takes the memory of its names.
@@ -130,22 +131,28 @@ impl NftChain {
     pub(crate) fn add_rule(
         &mut self,
         alloc: Global,
-        answers: Answers,
+        asked: Asked,
         handle: u32,
         reading: &Reading,
     ) -> Result<(), AllocError>
         ensures { OnOk result
-            (self.new ≡ with_said answers handle reading.now reading.now.act self.old) }
+            (self.new ≡ with_said asked handle reading.now reading.now.act self.old) }
     {
         let Some(act) = reading.act else {
             return Ok(());
         };
         match reading.cause {
             None => {
-                let answer = act_answer(answers, handle, act);
-                self.put_rules(alloc, &reading.caught, answer, act_target(act))
+                let answer = act_answer(asked.answers, handle, act);
+                self.put_rules(
+                    alloc,
+                    asked.family,
+                    &reading.caught,
+                    answer,
+                    act_target(act),
+                )
             }
-            Some(kind) => self.put_fault(alloc, handle, kind, &reading.caught),
+            Some(kind) => self.put_fault(alloc, asked.family, handle, kind, &reading.caught),
         }
     }
 
@@ -153,27 +160,29 @@ impl NftChain {
     pub(crate) fn add_unread(
         &mut self,
         alloc: Global,
+        family: Family,
         handle: u32,
         kind: RuleKind,
     ) -> Result<(), AllocError>
-        ensures { OnOk result (self.new ≡ with_unread handle kind self.old) }
+        ensures { OnOk result (self.new ≡ with_unread family handle kind self.old) }
     {
-        let caught = Caught::all(alloc)?;
-        self.put_fault(alloc, handle, kind, &caught)
+        let caught = Caught::all(alloc, family)?;
+        self.put_fault(alloc, family, handle, kind, &caught)
     }
 
     /// Puts a rule that no rule file says after the others.
     fn put_fault(
         &mut self,
         alloc: Global,
+        family: Family,
         handle: u32,
         kind: RuleKind,
         caught: &Caught,
     ) -> Result<(), AllocError>
-        ensures { OnOk result (self.new
-            ≡ with_fault handle kind (more_rules (rules_of caught.now handle nowhere) self.old)) }
+        ensures { OnOk result (self.new ≡ with_fault handle kind
+            (more_rules (rules_of_caught family caught.now handle nowhere) self.old)) }
     {
-        self.put_rules(alloc, caught, handle, Target::Jump(usize::MAX))?;
+        self.put_rules(alloc, family, caught, handle, Target::Jump(usize::MAX))?;
         self.faults.push(RuleFault { handle, kind })?;
         Ok(())
     }
@@ -182,14 +191,15 @@ impl NftChain {
     fn put_rules(
         &mut self,
         alloc: Global,
+        family: Family,
         caught: &Caught,
         userdata: u32,
         target: Target,
     ) -> Result<(), AllocError>
         ensures { OnOk result
-            (self.new ≡ more_rules (rules_of caught.now userdata target) self.old) }
+            (self.new ≡ more_rules (rules_of_caught family caught.now userdata target) self.old) }
     {
-        caught.put_rules(alloc, userdata, target, &mut self.rules)
+        put_rules(alloc, family, caught, userdata, target, &mut self.rules)
     }
 
     /// The rules alone, as a chain.

@@ -1,6 +1,7 @@
 //! What is asked of a ruleset, and what is known where a rule is read.
 
 use crate::chain::{NftChain, Owner};
+use field_defs::Family;
 
 /// What the answer of a rule is.
 #[derive(Clone, Copy)]
@@ -14,6 +15,8 @@ pub enum Answers {
 /// What is asked of a ruleset.
 #[derive(Clone, Copy)]
 pub struct Asked {
+    /// The family of its packets.
+    pub family: Family,
     /// What the answers of its rules are.
     pub answers: Answers,
 }

@@ -1,15 +1,16 @@
-//! the JSON of `nft -j list ruleset` → its chains for IPv4 packets, or its first faulty object
+//! the JSON of `nft -j list ruleset` → its chains for a family, or its first faulty object
 //!
-//! It reads tables, chains and rules of the families ip and inet. A rule is read statement by
-//! statement. One that no rule file says is kept as a rule that leads to no chain, so that a chain
-//! isn't turned into rules if its packets may come to it.
+//! It reads tables, chains and rules of inet, and of ip for IPv4 or ip6 for IPv6. A rule is read
+//! statement by statement. One that no rule file says is kept as a rule that leads to no chain, so
+//! that a chain isn't turned into rules if its packets may come to it.
 //!
 //! | module | what it holds |
 //! |---|---|
 //! | `shapes` | the members of objects and the items of arrays |
-//! | `packets`, `caught` | what a rule catches, as boxes of packets |
-//! | `values` | the right side of a comparison: values, prefixes, ranges and sets |
+//! | `values`, `addresses` | the right side of a comparison: values, prefixes, ranges and sets |
+//! | `boxes` | boxes of the packets that a comparison is true of |
 //! | `compared` | its left side: fields of headers, and what is known beside them |
+//! | `assumed` | comparisons with what is assumed of packets |
 //! | `reading` | a rule, statement by statement |
 //! | `known` | what is asked, and what is known where a rule is read |
 //! | `chain` | a chain: its name, its policy and its rules |
@@ -20,12 +21,13 @@
 //! Source: the manual pages nft(8) and libnftables-json(5).
 #![tactic(auto)]
 
-mod caught;
+mod addresses;
+mod assumed;
+mod boxes;
 mod chain;
 mod compared;
 mod fault;
 mod known;
-mod packets;
 mod parts;
 mod reading;
 mod ruleset;

@@ -3,18 +3,21 @@
 ghost use Rattle.std.specs.Prelude.{◌≡◌, map, MatchResult, Ok};
 ghost use Rattle.json.specs.Value.{value_view};
 ghost use Rattle.nft_reader.specs.Known.{known_of};
-ghost use Rattle.nft_reader.specs.Readings.{family_of, led_place, no_reading, target_of};
+ghost use Rattle.nft_reader.specs.Readings.{family_met, is_of, led_place, no_reading, target_of};
 ghost use Rattle.nft_reader.specs.Readings.{with_statements};
 ghost use Rattle.nft_reader.specs.Stops.{RefusesRule};
 
-use crate::caught::Caught;
+use crate::addresses::addresses_of_value;
+use crate::assumed::{interface_met, state_met};
+use crate::boxes::{address_boxes, field_boxes};
 use crate::chain::{Owner, place_of};
-use crate::compared::{Left, Sides, is_ip4, sides_of};
+use crate::compared::{Left, Operator, Sides, is_ip4, is_negated, is_turned, sides_of};
 use crate::fault::{RuleKind, RuleStop};
-use crate::known::Known;
-use crate::packets::Field;
+use crate::known::{Known, Question};
 use crate::shapes::{len_of, only, text_in};
 use crate::values::spans_of_value;
+use field_defs::Family;
+use iptables_reader::{Caught, End, Field, Packets};
 use json::Value;
 use list_chains::Span;
 use std::alloc::{AllocError, Global};
@@ -68,12 +71,12 @@ impl Reading {
     ghost use Rattle.nft_reader.specs.Readings as readings;
     ghost use Rattle.nft_reader.specs.Stops.{RefusesRule};
 
-    /// Nothing was read.
-    pub(crate) fn new(alloc: Global) -> Result<Reading, AllocError>
-        ensures { IfOk result (λ reading. reading ≡ readings.no_reading) }
+    /// Nothing was read of a rule for packets of the family.
+    pub(crate) fn new(alloc: Global, family: Family) -> Result<Reading, AllocError>
+        ensures { IfOk result (λ reading. reading ≡ readings.no_reading family) }
     {
         Ok(Reading {
-            caught: Caught::all(alloc)?,
+            caught: Caught::all(alloc, family)?,
             cause: None,
             act: None,
         })
@@ -95,15 +98,28 @@ impl Reading {
         self.act = Some(Act::Decide(verdict));
     }
 
+    /// Packets in one of some boxes, or after `!=` in none.
+    fn take(&mut self, alloc: Global, negated: bool, boxes: &[Packets]) -> Result<(), AllocError>
+        ensures { OnOk result (self.new ≡ readings.with_packets negated boxes.now self.old) }
+    {
+        self.caught.take(alloc, negated, boxes)
+    }
+
     /// Packets of a protocol.
-    fn keep_protocol(&mut self, alloc: Global, number: u64) -> Result<(), AllocError>
-        ensures { OnOk result (self.new ≡ readings.of_protocol number self.old) }
+    fn keep_protocol(
+        &mut self,
+        alloc: Global,
+        family: Family,
+        number: u64,
+    ) -> Result<(), AllocError>
+        ensures { OnOk result (self.new ≡ readings.of_protocol family number self.old) }
     {
         let span = Span {
             low: number,
             high: number,
         };
-        self.caught.compare(alloc, Field::Protocol, false, &[span])
+        let boxes = field_boxes(alloc, family, Field::Protocol, &[span])?;
+        self.take(alloc, false, &boxes)
     }
 
     /// None of the packets.
@@ -113,19 +129,47 @@ impl Reading {
         self.caught.clear();
     }
 
-    /// A comparison of a field with the right side.
-    fn add_value(
+    /// Packets of IPv4, if the family is.
+    fn keep_ip4(&mut self, family: Family)
+        ensures { self.new ≡ readings.of_ip4 family self.old }
+    {
+        match family {
+            Family::Ip4 => {}
+            Family::Ip6 => self.keep_none(),
+        }
+    }
+
+    /// Packets of IPv6.
+    fn keep_ip6(&mut self, family: Family)
+        ensures { self.new ≡ readings.of_ip6 family self.old }
+    {
+        match family {
+            Family::Ip4 => self.keep_none(),
+            Family::Ip6 => {}
+        }
+    }
+
+    /// A comparison of addresses with the right side.
+    fn add_addresses(
         &mut self,
         alloc: Global,
-        field: Field,
-        negated: bool,
+        family: Family,
+        end: End,
+        operator: Operator,
         right: &Value<'_>,
     ) -> Result<(), AllocError>
-        ensures { OnOk result
-            (self.new ≡ readings.with_value field negated (value_view right.now) self.old) }
+        ensures { OnOk result (self.new
+            ≡ readings.with_addresses family end operator (value_view right.now) self.old) }
     {
-        match spans_of_value(alloc, field, right)? {
-            Some(spans) => self.caught.compare(alloc, field, negated, &spans),
+        let Some(negated) = is_negated(operator) else {
+            self.put_cause(RuleKind::CantSay);
+            return Ok(());
+        };
+        match addresses_of_value(alloc, family, right)? {
+            Some(spans) => {
+                let boxes = address_boxes(alloc, family, end, &spans)?;
+                self.take(alloc, negated, &boxes)
+            }
             None => {
                 self.put_cause(RuleKind::CantSay);
                 Ok(())
@@ -133,14 +177,46 @@ impl Reading {
         }
     }
 
-    /// A comparison of the family of packets, which are those of IPv4.
-    fn add_truth(&mut self, negated: bool, is_ip4: Option<bool>)
-        ensures { self.new ≡ readings.with_truth negated self.old is_ip4 }
+    /// A comparison of a field with the right side.
+    fn add_value(
+        &mut self,
+        alloc: Global,
+        family: Family,
+        field: Field,
+        operator: Operator,
+        right: &Value<'_>,
+    ) -> Result<(), AllocError>
+        ensures { OnOk result (self.new
+            ≡ readings.with_value family field operator (value_view right.now) self.old) }
     {
-        match (negated, is_ip4) {
-            (_, None) => self.put_cause(RuleKind::CantSay),
-            (false, Some(true)) | (true, Some(false)) => {}
-            (false, Some(false)) | (true, Some(true)) => self.keep_none(),
+        let Some(negated) = is_negated(operator) else {
+            self.put_cause(RuleKind::CantSay);
+            return Ok(());
+        };
+        match spans_of_value(alloc, field, right)? {
+            Some(spans) => {
+                let boxes = field_boxes(alloc, family, field, &spans)?;
+                self.take(alloc, negated, &boxes)
+            }
+            None => {
+                self.put_cause(RuleKind::CantSay);
+                Ok(())
+            }
+        }
+    }
+
+    /// What is true of all packets or of none, or a cause where that isn't known. It may be turned.
+    fn add_met(&mut self, negated: Option<bool>, met: Result<bool, RuleKind>)
+        ensures { self.new ≡ readings.with_met self.old negated met }
+    {
+        match (negated, met) {
+            (None, _) => self.put_cause(RuleKind::CantSay),
+            (Some(_), Err(kind)) => self.put_cause(kind),
+            (Some(negated), Ok(met)) => {
+                if met == negated {
+                    self.keep_none();
+                }
+            }
         }
     }
 
@@ -152,28 +228,39 @@ impl Reading {
         sides: Sides<'_, '_>,
     ) -> Result<(), AllocError>
         ensures { OnOk result (self.new ≡ readings.with_side (known_of known.entry)
-            sides.entry.side sides.entry.negated (value_view sides.entry.right.now) self.old) }
+            sides.entry.side sides.entry.operator (value_view sides.entry.right.now) self.old) }
     {
         let Sides {
             side,
-            negated,
+            operator,
             right,
         } = sides;
+        let Question { asked, assumed } = known.question;
         match side {
-            Left::Plain(field) => self.add_value(alloc, field, negated, right),
+            Left::Plain(field) => {
+                return self.add_value(alloc, asked.family, field, operator, right);
+            }
+            Left::Address(end) => {
+                return self.add_addresses(alloc, asked.family, end, operator, right);
+            }
             Left::Ports(number, field) => {
-                self.keep_protocol(alloc, number)?;
-                self.add_value(alloc, field, negated, right)
+                self.keep_protocol(alloc, asked.family, number)?;
+                return self.add_value(alloc, asked.family, field, operator, right);
             }
-            Left::OtherFamily => {
-                self.keep_none();
-                Ok(())
-            }
+            Left::OtherFamily => self.keep_none(),
             Left::Nfproto => {
-                self.add_truth(negated, family_of(right));
-                Ok(())
+                self.add_met(is_negated(operator), family_met(asked.family, right));
             }
+            Left::Interface(way, naming) => self.add_met(
+                is_negated(operator),
+                interface_met(assumed, way, naming, right),
+            ),
+            Left::State => self.add_met(
+                Some(is_turned(operator)),
+                state_met(assumed, operator, right),
+            ),
         }
+        Ok(())
     }
 
     /// A comparison.
@@ -186,7 +273,7 @@ impl Reading {
         ensures { OnOk result
             (self.new ≡ readings.with_match (known_of known.entry) (value_view said.now) self.old) }
     {
-        match sides_of(said) {
+        match sides_of(known.question.asked.family, said) {
             Some(sides) => self.add_side(alloc, known, sides),
             None => {
                 self.put_cause(RuleKind::CantSay);
@@ -196,16 +283,22 @@ impl Reading {
     }
 
     /// An answer to the sender, of a type.
-    fn reject_by(&mut self, alloc: Global, kind: Option<&str>) -> Result<(), RuleStop>
+    fn reject_by(
+        &mut self,
+        alloc: Global,
+        family: Family,
+        kind: Option<&str>,
+    ) -> Result<(), RuleStop>
         ensures ok { OnOk result
-            (readings.rejected_by self.old (readings.text_of kind.entry) ≡ Ok self.new) }
+            (readings.rejected_by family self.old (readings.text_of kind.entry) ≡ Ok self.new) }
         ensures err { IfErr result
-            (RefusesRule (readings.rejected_by self.old (readings.text_of kind.entry))) }
+            (RefusesRule (readings.rejected_by family self.old (readings.text_of kind.entry))) }
     {
         match kind {
-            Some("icmpx" | "icmp") => {}
-            Some("icmpv6") => self.keep_none(),
-            Some("tcp reset") => self.keep_protocol(alloc, TCP)?,
+            Some("icmpx") => {}
+            Some("icmp") => self.keep_ip4(family),
+            Some("icmpv6") => self.keep_ip6(family),
+            Some("tcp reset") => self.keep_protocol(alloc, family, TCP)?,
             _ => return Err(RuleStop::Unsaid(RuleKind::BadStatement)),
         }
         self.decide(Verdict::Reject);
@@ -213,16 +306,17 @@ impl Reading {
     }
 
     /// An answer to the sender, of a type or of the usual one.
-    fn reject(&mut self, alloc: Global, said: &Value<'_>) -> Result<(), RuleStop>
-        ensures ok { OnOk result (readings.rejected (value_view said.now) self.old ≡ Ok self.new) }
+    fn reject(&mut self, alloc: Global, family: Family, said: &Value<'_>) -> Result<(), RuleStop>
+        ensures ok { OnOk result
+            (readings.rejected family (value_view said.now) self.old ≡ Ok self.new) }
         ensures err { IfErr result
-            (RefusesRule (readings.rejected (value_view said.now) self.old)) }
+            (RefusesRule (readings.rejected family (value_view said.now) self.old)) }
     {
         if len_of(said) == 0 {
             self.decide(Verdict::Reject);
             return Ok(());
         }
-        self.reject_by(alloc, text_in("type", said))
+        self.reject_by(alloc, family, text_in("type", said))
     }
 
     /// A statement that says nothing but its name.
@@ -272,7 +366,7 @@ impl Reading {
                 self.add_match(alloc, known, said)?;
                 Ok(())
             }
-            "reject" => self.reject(alloc, said),
+            "reject" => self.reject(alloc, known.question.asked.family, said),
             "jump" => {
                 self.act = Some(Act::Jump(led_place(known, said)?));
                 Ok(())
@@ -307,11 +401,27 @@ impl Reading {
     }
 }
 
-/// Whether the family of packets that a value names is IPv4.
-fn family_of(value: &Value<'_>) -> Option<bool>
-    ensures { result ≡ family_of (value_view value.now) }
+/// Whether it is IPv4, if the family is.
+fn is_of(family: Family, is_ip4: bool) -> bool
+    ensures { result ≡ is_of family is_ip4 }
 {
-    is_ip4(value.as_str()?)
+    match family {
+        Family::Ip4 => is_ip4,
+        Family::Ip6 => !is_ip4,
+    }
+}
+
+/// Whether the family of packets is the one that a value names.
+fn family_met(family: Family, value: &Value<'_>) -> Result<bool, RuleKind>
+    ensures { result ≡ family_met family (value_view value.now) }
+{
+    let Some(name) = value.as_str() else {
+        return Err(RuleKind::CantSay);
+    };
+    match is_ip4(name) {
+        Some(met) => Ok(is_of(family, met)),
+        None => Err(RuleKind::CantSay),
+    }
 }
 
 /// The place of the chain of the same table that a jump names.
@@ -345,12 +455,13 @@ pub(crate) fn read_statements(
     statements: &[Value<'_>],
 ) -> Result<Reading, RuleStop>
     ensures { MatchResult result
-        (λ reading. with_statements (known_of known.entry) no_reading
-        (map value_view statements.now) ≡ Ok reading)
-        (RefusesRule (with_statements (known_of known.entry) no_reading
-        (map value_view statements.now))) }
+        (λ reading. with_statements (known_of known.entry)
+        (no_reading known.entry.question.asked.family) (map value_view statements.now)
+        ≡ Ok reading)
+        (RefusesRule (with_statements (known_of known.entry)
+        (no_reading known.entry.question.asked.family) (map value_view statements.now))) }
 {
-    let mut reading = Reading::new(alloc)?;
+    let mut reading = Reading::new(alloc, known.question.asked.family)?;
     for statement in statements {
         reading.add_statement(alloc, known, statement)?;
     }

@@ -1,4 +1,4 @@
-//! A ruleset, object by object: its chains for IPv4 packets.
+//! A ruleset, object by object: its chains for the packets of a family.
 
 ghost use Rattle.std.specs.Prelude.{◌≡◌, ◌<◌, [], length, map, nat_lt, true, false, IfErr, IfOk};
 ghost use Rattle.std.specs.Prelude.{OnOk, MatchResult, MatchOption, Some, None, Ok, Err};
@@ -16,6 +16,7 @@ use crate::known::{Asked, Known, Question};
 use crate::parts::{ChainParts, RuleParts, chain_parts, rule_parts};
 use crate::reading::read_statements;
 use crate::shapes::{items_of, only, text_in};
+use field_defs::Family;
 use json::{Error, Scratch, Value};
 use std::alloc::{AllocError, Global};
 
@@ -38,15 +39,17 @@ fn put_rule(
           statements = map value_view parts.entry.statements.now;
         }) chains.old.items place) }
 {
-    let answers = question.asked.answers;
+    let asked = question.asked;
     let known = Known {
         question,
         chains,
         owner: parts.owner,
     };
     match read_statements(alloc, known, parts.statements) {
-        Ok(reading) => chains[place].add_rule(alloc, answers, parts.handle, &reading),
-        Err(RuleStop::Unsaid(kind)) => chains[place].add_unread(alloc, parts.handle, kind),
+        Ok(reading) => chains[place].add_rule(alloc, asked, parts.handle, &reading),
+        Err(RuleStop::Unsaid(kind)) => {
+            chains[place].add_unread(alloc, asked.family, parts.handle, kind)
+        }
         Err(RuleStop::OutOfMemory) => Err(AllocError),
     }
 }
@@ -114,11 +117,14 @@ fn add_chain(
     }
 }
 
-/// Whether chains and rules of a family are read.
-fn is_read(family: &str) -> bool
-    ensures { result ≡ listed.is_read family.now }
+/// Whether packets of a family come to tables of one of a name.
+fn is_read(family: Family, name: &str) -> bool
+    ensures { result ≡ listed.is_read family name.now }
 {
-    family == "ip" || family == "inet"
+    match family {
+        Family::Ip4 => name == "ip" || name == "inet",
+        Family::Ip6 => name == "ip6" || name == "inet",
+    }
 }
 
 /// Whether objects of a name say nothing of packets by themselves.
@@ -143,7 +149,7 @@ fn add_chain_object(
     let Some(family) = text_in("family", said) else {
         return Err(Stop::Faulty(ObjectKind::NoFamily));
     };
-    if !is_read(family) {
+    if !is_read(question.asked.family, family) {
         return Ok(());
     }
     add_chain(alloc, question, chains, family, said)
@@ -164,7 +170,7 @@ fn add_rule_object(
     let Some(family) = text_in("family", said) else {
         return Err(Stop::Faulty(ObjectKind::NoFamily));
     };
-    if !is_read(family) {
+    if !is_read(question.asked.family, family) {
         return Ok(());
     }
     add_rule(alloc, question, chains, family, said)
@@ -300,12 +306,12 @@ fn read_value(
     }
 }
 
-/// The chains of a ruleset for IPv4 packets, or a faulty object.
+/// The chains of a ruleset for the packets of a family, or a faulty object.
 ///
 /// `bytes` holds the whole file, at most [`MAX_RULESET`] bytes: an object with the one member
-/// `nftables`, the list of the ruleset's objects. Chains and rules of the families ip and inet are
-/// read, and those of other families have no part. Each rule stands after its chain, and after the
-/// chains that it leads to.
+/// `nftables`, the list of the ruleset's objects. Chains and rules are read of inet, and for IPv4 of
+/// ip, for IPv6 of ip6; those of other families have no part. Each rule stands after its chain, and
+/// after the chains that it leads to.
 ///
 /// A rule that no rule file says leads to no chain, so that `list_chains` refuses each chain whose
 /// packets may come to it; the chain's faults have its cause.

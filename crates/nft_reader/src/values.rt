@@ -1,42 +1,23 @@
-//! The right side of a comparison: values, prefixes, ranges, and anonymous sets of these.
+//! The right side of a comparison with a protocol or with ports: numbers, ranges, and anonymous
+//! sets of these.
 
-ghost use Rattle.std.specs.Prelude.{◌≡◌, ◌≤◌, ◌^◌, ◌<◌, [], map, Some, None, IfOk, MatchOption};
+ghost use Rattle.std.specs.Prelude.{◌≡◌, [], map, Some, None, IfOk, MatchOption};
 ghost use Rattle.json.specs.Value.{value_view};
-ghost use Rattle.nft_reader.specs.Values.{address_in, address_of, elements_of, field_prefix};
-ghost use Rattle.nft_reader.specs.Values.{filled_span, ip4_plain, named_span, other_named};
-ghost use Rattle.nft_reader.specs.Values.{plain_span, ported_named, prefix_of, prefix_span};
-ghost use Rattle.nft_reader.specs.Values.{protocol_named, protocol_of, range_of, span_of};
-ghost use Rattle.nft_reader.specs.Values.{spans_after, spans_of_value, value_of};
+ghost use Rattle.nft_reader.specs.Values.{elements_of, filled_span, gathered, named_span, other_named};
+ghost use Rattle.nft_reader.specs.Values.{plain_span, ported_named, protocol_named, protocol_of};
+ghost use Rattle.nft_reader.specs.Values.{range_of, span_list, span_of, spans_of_value, value_of};
 
-use crate::packets::Field;
-use crate::shapes::{items_of, len_of, number_in, number_of, only, text_in};
+use crate::shapes::{items_of, number_of, only};
+use iptables_reader::Field;
 use json::Value;
 use list_chains::Span;
 use std::alloc::{AllocError, Global};
-use text_scan::{ip4_text, put_ip4};
 
 /// The greatest port.
 const MAX_PORT: u64 = 65_535;
 
 /// The greatest number of a protocol.
 const MAX_PROTOCOL: u64 = 255;
-
-/// The IPv4 address that a text spells as it is printed, without leading zeros.
-fn ip4_plain(text: &[u8]) -> Option<u32>
-    ensures { result ≡ ip4_plain text.now }
-{
-    let address = ip4_text(text)?;
-    let mut printed = [0; 40];
-    let len = put_ip4(address, &mut printed);
-    (text == &printed[..len]).then_some(address)
-}
-
-/// The address of a value.
-fn address_of(value: &Value<'_>) -> Option<u64>
-    ensures { result ≡ address_of (value_view value.now) }
-{
-    Some(u64::from(ip4_plain(value.as_str()?.as_bytes())?))
-}
 
 /// The protocols whose ports keys have, by their names.
 pub(crate) fn ported_named(name: &str) -> Option<u64>
@@ -89,7 +70,6 @@ fn value_of(field: Field, value: &Value<'_>) -> Option<u64>
 {
     match field {
         Field::Protocol => protocol_of(value),
-        Field::Source | Field::Destination => address_of(value),
         Field::SourcePorts | Field::DestinationPorts => number_of(value, MAX_PORT),
     }
 }
@@ -105,58 +85,7 @@ fn filled_span(low: u64, high: u64) -> Option<Span>
     }
 }
 
-/// The span of the addresses that agree with one in all but their last free bits.
-fn prefix_span(address: u32, free: u32) -> Span
-    requires { free ≤ 32 }
-    ensures { result ≡ prefix_span address free }
-{
-    let size = power(free);
-    let low = u64::from(address) / size * size;
-    Span {
-        low,
-        high: low + (size - 1),
-    }
-}
-
-/// How many addresses so many free bits have.
-fn power(free: u32) -> u64
-    requires { free ≤ 32 }
-    ensures is { result ≡ 2 ^ free }
-    ensures some { 0 < result }
-{
-    1 << free
-}
-
-/// The address of a member.
-fn address_in(key: &str, value: &Value<'_>) -> Option<u32>
-    ensures { result ≡ address_in key.now (value_view value.now) }
-{
-    ip4_plain(text_in(key, value)?.as_bytes())
-}
-
-/// A prefix.
-fn prefix_of(said: &Value<'_>) -> Option<Span>
-    ensures { result ≡ prefix_of (value_view said.now) }
-{
-    if len_of(said) != 2 {
-        return None;
-    }
-    let address = address_in("addr", said)?;
-    let bits = number_in("len", said, 32)?;
-    Some(prefix_span(address, 32 - bits as u32))
-}
-
-/// Only addresses have prefixes.
-fn field_prefix(field: Field, said: &Value<'_>) -> Option<Span>
-    ensures { result ≡ field_prefix field (value_view said.now) }
-{
-    match field {
-        Field::Source | Field::Destination => prefix_of(said),
-        Field::Protocol | Field::SourcePorts | Field::DestinationPorts => None,
-    }
-}
-
-/// A range: its two ends, the lower first.
+/// A range of numbers: its two ends, the lower first.
 fn range_of(field: Field, said: &Value<'_>) -> Option<Span>
     ensures { result ≡ range_of field (value_view said.now) }
 {
@@ -185,7 +114,6 @@ fn named_span(field: Field, name: &str, said: &Value<'_>) -> Option<Span>
     ensures { result ≡ named_span field name.now (value_view said.now) }
 {
     match name {
-        "prefix" => field_prefix(field, said),
         "range" => range_of(field, said),
         _ => None,
     }
@@ -201,6 +129,18 @@ fn span_of(field: Field, value: &Value<'_>) -> Option<Span>
     }
 }
 
+/// The elements of a value: those of a set, or else the value itself.
+pub(crate) fn elements_of<'v, 'a>(value: &'v Value<'a>) -> Option<&'v [Value<'a>]>
+    ensures { MatchOption result
+        (elements_of (value_view value.now) ≡ None)
+        (λ values. elements_of (value_view value.now) ≡ Some (map value_view values.now)) }
+{
+    match only(value) {
+        Some(("set", said)) => items_of(said),
+        _ => Some(std::slice::from_ref(value)),
+    }
+}
+
 /// The spans of elements, if each has one.
 fn spans_of(
     alloc: Global,
@@ -208,8 +148,8 @@ fn spans_of(
     values: &[Value<'_>],
 ) -> Result<Option<Vec<Span>>, AllocError>
     ensures { IfOk result (λ found. MatchOption found
-        (spans_after field [] (map value_view values.now) ≡ None)
-        (λ spans. spans_after field [] (map value_view values.now) ≡ Some spans.items)) }
+        (gathered (span_list field) [] (map value_view values.now) ≡ None)
+        (λ spans. gathered (span_list field) [] (map value_view values.now) ≡ Some spans.items)) }
 {
     let mut spans = Vec::new(alloc);
     for value in values {
@@ -221,19 +161,7 @@ fn spans_of(
     Ok(Some(spans))
 }
 
-/// The elements of a value: those of a set, or else the value itself.
-fn elements_of<'v, 'a>(value: &'v Value<'a>) -> Option<&'v [Value<'a>]>
-    ensures { MatchOption result
-        (elements_of (value_view value.now) ≡ None)
-        (λ values. elements_of (value_view value.now) ≡ Some (map value_view values.now)) }
-{
-    match only(value) {
-        Some(("set", said)) => items_of(said),
-        _ => Some(std::slice::from_ref(value)),
-    }
-}
-
-/// The spans of the right side of a comparison, if it is known.
+/// The spans of the right side of a comparison with a field, if it is known.
 pub(crate) fn spans_of_value(
     alloc: Global,
     field: Field,
