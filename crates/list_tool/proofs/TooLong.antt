@@ -10,7 +10,7 @@ use Rattle.nft_reader.specs.declared.fault.ObjectKind.TheVariants as object
 use Rattle.list_tool.specs.declared.status.ListFault.{ListFault}
 use Rattle.list_tool.specs.declared.status.ListKind.TheVariants.{Line, CiscoLine, Object}
 use Rattle.list_tool.specs.declared.words.Form.{Form}
-use Rattle.list_tool.specs.declared.words.Form.TheVariants.{Iptables, Ip6tables, Cisco, Nft}
+use Rattle.list_tool.specs.declared.words.Form.TheVariants.{Iptables, Ip6tables, Cisco, Nft, Nft6}
 use Rattle.list_tool.specs.Listing.{at_line, at_object, rules_for, way_in}
 use Rattle.list_tool.specs.Printed.{text_of}
 use Rattle.list_tool.specs.Words.{Request}
@@ -21,6 +21,7 @@ long_fault Iptables = at_line 0 (Line line.FileTooLong)
 long_fault Ip6tables = at_line 0 (Line line.FileTooLong)
 long_fault Cisco = at_line 0 (CiscoLine entry.FileTooLong)
 long_fault Nft = at_object 0 (Object object.FileTooLong)
+long_fault Nft6 = at_object 0 (Object object.FileTooLong)
 
 -- it says nothing
 long_way : (form : Form) (its : Answers) (assumed name bytes : List ℕ) → nat_lt max_list (length bytes) ≡ true →
@@ -29,6 +30,7 @@ long_way Iptables its assumed name bytes long = rw long refl
 long_way Ip6tables its assumed name bytes long = rw long refl
 long_way Cisco its assumed name bytes long = rw long refl
 long_way Nft its assumed name bytes long = rw long refl
+long_way Nft6 its assumed name bytes long = rw long refl
 
 -- its rules are refused
 long_rules : (request : Request) (bytes : List ℕ) (its : Answers) → nat_lt max_list (length bytes) ≡ true →

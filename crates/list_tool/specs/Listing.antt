@@ -45,7 +45,7 @@ use Rattle.list_tool.specs.declared.status.Refusal.{Refusal}
 use Rattle.list_tool.specs.declared.status.Refusal.TheVariants as refusal
 use Rattle.list_tool.specs.declared.listing.Start.{Start}
 use Rattle.list_tool.specs.declared.words.Form.{Form}
-use Rattle.list_tool.specs.declared.words.Form.TheVariants.{Iptables, Ip6tables, Cisco, Nft}
+use Rattle.list_tool.specs.declared.words.Form.TheVariants.{Iptables, Ip6tables, Cisco, Nft, Nft6}
 use Rattle.list_tool.specs.Words.{Request}
 
 -- the family of a form's packets
@@ -54,6 +54,7 @@ family_of Iptables = Ip4
 family_of Ip6tables = Ip6
 family_of Cisco = Ip4
 family_of Nft = Ip4
+family_of Nft6 = Ip6
 
 -- chains, those of their rules that no rule file says, and the chain that packets come to
 pub record WayView : Type 0 where
@@ -80,6 +81,7 @@ rule_place Iptables number = placed.Line number
 rule_place Ip6tables number = placed.Line number
 rule_place Cisco number = placed.Line number
 rule_place Nft number = placed.Handle number
+rule_place Nft6 number = placed.Handle number
 
 -- and of what stands in no line, or in no object
 abbrev pub no_place : Form → ListPlace
@@ -87,6 +89,7 @@ no_place Iptables = placed.Line 0
 no_place Ip6tables = placed.Line 0
 no_place Cisco = placed.Line 0
 no_place Nft = placed.Object 0
+no_place Nft6 = placed.Object 0
 
 infixl 10 ◌>>=◌
 -- a value, and then what comes of it, or its fault
@@ -285,7 +288,9 @@ way_in Ip6tables its assumed name bytes =
     saved_way (record { family = Ip6; answers = its }) assumed name bytes
 way_in Cisco its assumed name bytes = configured_way its name bytes
 way_in Nft its assumed name bytes =
-    ruleset_way (record { answers = rule_answers its }) assumed name bytes
+    ruleset_way (record { family = Ip4; answers = rule_answers its }) assumed name bytes
+way_in Nft6 its assumed name bytes =
+    ruleset_way (record { family = Ip6; answers = rule_answers its }) assumed name bytes
 
 -- what is asked for, with such answers, by the bytes of a list
 abbrev pub way_of : Request → Answers → List ℕ → Result WayView ListFault

@@ -108,6 +108,8 @@ rule_text rule.UnknownStatement = codes "unknown statement"
 rule_text rule.AfterVerdict = codes "statement after the verdict"
 rule_text rule.NoTarget = codes "target not there"
 rule_text rule.Rate = codes "depends on a rate"
+rule_text rule.NeedsInterface = codes "interface not assumed"
+rule_text rule.NeedsState = codes "state not assumed"
 rule_text rule.CantSay = codes "matches what no rule file says"
 
 -- and of a name of base chains

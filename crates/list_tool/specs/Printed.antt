@@ -14,7 +14,7 @@ use Rattle.list_tool.specs.declared.status.ListKind.TheVariants.{NoPrefix, TextT
 use Rattle.list_tool.specs.declared.status.Refusal.{Refusal}
 use Rattle.list_tool.specs.declared.status.Refusal.TheVariants as refusal
 use Rattle.list_tool.specs.declared.words.Form.{Form}
-use Rattle.list_tool.specs.declared.words.Form.TheVariants.{Iptables, Ip6tables, Cisco, Nft}
+use Rattle.list_tool.specs.declared.words.Form.TheVariants.{Iptables, Ip6tables, Cisco, Nft, Nft6}
 use Rattle.list_tool.specs.Listing.{◌>>=◌, at_place, family_of, no_place, rule_place, rules_for}
 use Rattle.list_tool.specs.Words.{Request}
 
@@ -55,6 +55,7 @@ number_text Iptables lines number = line_text lines number
 number_text Ip6tables lines number = line_text lines number
 number_text Cisco lines number = line_text lines number
 number_text Nft lines number = numbered (codes "handle ") number
+number_text Nft6 lines number = numbered (codes "handle ") number
 
 -- so it stands above a rule, if that has another number than the rule before
 abbrev pub comment_of : Form → List (List ℕ) → ℕ → ℕ → Option LineView

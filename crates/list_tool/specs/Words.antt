@@ -12,7 +12,7 @@ use Rattle.command_words.specs.declared.usage_fault.UsageKind.TheVariants.{Repea
 use Rattle.iptables_reader.specs.declared.table.Answers.{Answers}
 use Rattle.iptables_reader.specs.declared.table.Answers.TheVariants.{Line, Verdict}
 use Rattle.list_tool.specs.declared.words.Form.{Form}
-use Rattle.list_tool.specs.declared.words.Form.TheVariants.{Iptables, Ip6tables, Cisco, Nft}
+use Rattle.list_tool.specs.declared.words.Form.TheVariants.{Iptables, Ip6tables, Cisco, Nft, Nft6}
 use Rattle.iptables_reader.specs.Assumed.{is_assumption}
 
 -- what the userdata of rules is, and what is assumed of packets beside their bytes
@@ -37,7 +37,8 @@ form_named word =
     if bytes_eq word (codes "iptables") then Some Iptables
     else (if bytes_eq word (codes "ip6tables") then Some Ip6tables
     else (if bytes_eq word (codes "cisco") then Some Cisco
-    else (if bytes_eq word (codes "nft") then Some Nft else None)))
+    else (if bytes_eq word (codes "nft") then Some Nft
+    else (if bytes_eq word (codes "nft6") then Some Nft6 else None))))
 
 -- ---- options
 

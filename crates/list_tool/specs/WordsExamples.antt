@@ -7,7 +7,7 @@ use Rattle.command_words.specs.declared.usage_fault.UsageKind.TheVariants.{Repea
 use Rattle.iptables_reader.specs.declared.table.Answers.{Answers}
 use Rattle.iptables_reader.specs.declared.table.Answers.TheVariants.{Line, Verdict}
 use Rattle.list_tool.specs.declared.words.Form.{Form}
-use Rattle.list_tool.specs.declared.words.Form.TheVariants.{Iptables, Ip6tables, Cisco, Nft}
+use Rattle.list_tool.specs.declared.words.Form.TheVariants.{Iptables, Ip6tables, Cisco, Nft, Nft6}
 use Rattle.list_tool.specs.Words.{Request, command, fault_at}
 
 -- the chain INPUT of the list fw.list, where nothing is assumed
@@ -34,6 +34,9 @@ of_cisco = refl
 
 of_nft : after (codes "nft") [] ≡ asked Nft Line
 of_nft = refl
+
+of_nft6 : after (codes "nft6") [] ≡ asked Nft6 Line
+of_nft6 = refl
 
 by_verdict : after (codes "iptables") (codes "data=verdict" ∷ []) ≡ asked Iptables Verdict
 by_verdict = refl

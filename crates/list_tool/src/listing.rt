@@ -47,7 +47,7 @@ pub(crate) fn family_of(form: Form) -> Family
 {
     match form {
         Form::Iptables | Form::Cisco | Form::Nft => Family::Ip4,
-        Form::Ip6tables => Family::Ip6,
+        Form::Ip6tables | Form::Nft6 => Family::Ip6,
     }
 }
 
@@ -95,9 +95,12 @@ fn way_of(alloc: Global, bytes: &[u8], request: &Request, answers: Answers) -> R
             saved_way(alloc, bytes, Asked { family, answers }, assumed, name)
         }
         Form::Cisco => configured_way(alloc, bytes, answers, name),
-        Form::Nft => {
-            let answers = rule_answers(answers);
-            ruleset_way(alloc, bytes, nft_reader::Asked { answers }, assumed, name)
+        Form::Nft | Form::Nft6 => {
+            let asked = nft_reader::Asked {
+                family: family_of(request.form),
+                answers: rule_answers(answers),
+            };
+            ruleset_way(alloc, bytes, asked, assumed, name)
         }
     }
 }
@@ -263,7 +266,7 @@ pub(crate) fn rule_place(form: Form, number: u32) -> ListPlace
 {
     match form {
         Form::Iptables | Form::Ip6tables | Form::Cisco => ListPlace::Line(number),
-        Form::Nft => ListPlace::Handle(number),
+        Form::Nft | Form::Nft6 => ListPlace::Handle(number),
     }
 }
 
@@ -273,7 +276,7 @@ pub(crate) fn at_no_place(form: Form, kind: ListKind) -> ListFault
 {
     let place = match form {
         Form::Iptables | Form::Ip6tables | Form::Cisco => ListPlace::Line(0),
-        Form::Nft => ListPlace::Object(0),
+        Form::Nft | Form::Nft6 => ListPlace::Object(0),
     };
     ListFault { place, kind }
 }

@@ -215,6 +215,8 @@ fn rule_kind(fault: RuleKind) -> &'static [u8]
         RuleKind::AfterVerdict => b"statement after the verdict",
         RuleKind::NoTarget => b"target not there",
         RuleKind::Rate => b"depends on a rate",
+        RuleKind::NeedsInterface => b"interface not assumed",
+        RuleKind::NeedsState => b"state not assumed",
         RuleKind::CantSay => b"matches what no rule file says",
     }
 }

@@ -256,7 +256,7 @@ fn number_line<'a>(form: Form, texts: &[&'a [u8]], number: u32) -> ListLine<'a>
         Form::Iptables | Form::Ip6tables | Form::Cisco => {
             ListLine::Comment(line_text(texts, number))
         }
-        Form::Nft => ListLine::Numbered(b"handle ", number),
+        Form::Nft | Form::Nft6 => ListLine::Numbered(b"handle ", number),
     }
 }
 

@@ -24,9 +24,9 @@ use std::alloc::Global;
 ///
 /// The words are those after the program's name: `iptables` or `ip6tables`, the name of the file,
 /// and the name of a chain that packets come to by themselves; or `cisco`, the name of the file,
-/// and the name or the number of an extended list of IPv4; or `nft`, the name of the file, and the
-/// name of a base chain. Then options: `data=line` or `data=verdict`, and `assume=`, which changes
-/// nothing for `cisco`.
+/// and the name or the number of an extended list of IPv4; or `nft` or `nft6`, the name of the
+/// file, and the name of a base chain. Then options: `data=line` or `data=verdict`, and `assume=`,
+/// which changes nothing for `cisco`.
 ///
 /// The list is read through `desk`. What is put to `out` is a rule file whose winner has, for every
 /// packet of the family, the number of the line that decides, or its verdict. Above its rules stand

@@ -20,6 +20,8 @@ pub enum Form {
     Cisco,
     /// What `nft -j list ruleset` prints, for IPv4 packets.
     Nft,
+    /// The same for IPv6 packets.
+    Nft6,
 }
 
 /// What is asked for: the rule file of a chain of a list.
@@ -74,6 +76,7 @@ fn form_named(word: &str) -> Option<Form>
         "ip6tables" => Some(Form::Ip6tables),
         "cisco" => Some(Form::Cisco),
         "nft" => Some(Form::Nft),
+        "nft6" => Some(Form::Nft6),
         _ => None,
     }
 }
