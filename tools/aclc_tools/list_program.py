@@ -2,7 +2,7 @@
 """The proved program aclc-lists: where it is, which lists it is asked for, and the rule file that it writes.
 
 The tools read a list first: the chain or the list and the family that are meant, and what its other tables do. The
-program is handed one table alone: of iptables filter, in which each line keeps its number, and of nft that of the chain.
+program is handed one table alone: of iptables filter, in which each line keeps its number; of nft that of the chain.
 """
 import os
 import re
@@ -17,7 +17,7 @@ from aclc_tools.program import TOP, leave
 
 BUILT = TOP / "crates" / "aclc_lists" / "out" / "aclc_lists"
 WORDS = {("iptables", 4): "iptables", ("iptables", 6): "ip6tables", ("cisco", 4): "cisco", ("cisco", 6): "cisco",
-         ("nft", 4): "nft"}
+         ("nft", 4): "nft", ("nft", 6): "nft6"}
 DONE, REFUSED = 0, 3
 SAID = re.compile(r"aclc-lists: list: (line|object|handle) (\d+): (.*)\n")
 # What came of a list: the lines of the program's rule file, or what it refuses, by its number, and why.

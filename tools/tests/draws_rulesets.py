@@ -1,5 +1,5 @@
 # SPDX-License-Identifier: BSD-3-Clause
-"""Rulesets of nft for the program aclc-lists: what its rules say of IPv4 packets, in statements that it reads."""
+"""Rulesets of nft for the program aclc-lists: what rules say of packets of a family, in statements that it reads."""
 import json
 import re
 
@@ -8,71 +8,90 @@ import walk_nft
 from aclc_tools import assume
 from aclc_tools.forms import options_of
 from converting import Drawn
+from draws_iptables import assumed_of
 
-TABLES = ("ip", "inet")
-ADDRESSES = draws_nft.ADDRESSES["ip"]
 PORTS = draws_nft.PORTS
 PROTOCOLS = ("tcp", "udp", "icmp", "gre", "esp", 47, 253)
+STATES = ("new", "established", "related")
 
 
-def field(draw, _):
-    """A comparison of an address or of the protocol."""
-    if draw.random() < 0.25:
-        left = draw.choice([draws_nft.payload("ip", "protocol"), {"meta": {"key": "l4proto"}}])
-        return draws_nft.comparison(left, draw.choice(["==", "!="]), draws_nft.some(draw, PROTOCOLS))
-    left = draws_nft.payload("ip", draw.choice(["saddr", "daddr"]))
-    return draws_nft.comparison(left, draw.choice(["==", "!="]), draws_nft.some(draw, ADDRESSES))
+class Rules:
+    """Draws rules for packets of one family, `ip` or `ip6`, in a table."""
+
+    def __init__(self, draw, network, table):
+        self.draw, self.network, self.table = draw, network, table
+
+    def compared(self, left, operators, right):
+        """A comparison by one of some operators."""
+        return draws_nft.comparison(left, self.draw.choice(operators), right)
+
+    def field(self, _):
+        """A comparison of an address or of the protocol."""
+        if self.draw.random() < 0.25:
+            lefts = [draws_nft.payload("ip", "protocol")] * (self.network == "ip") + [{"meta": {"key": "l4proto"}}]
+            return self.compared(self.draw.choice(lefts), ["==", "!="], draws_nft.some(self.draw, PROTOCOLS))
+        left = draws_nft.payload(self.network, self.draw.choice(["saddr", "daddr"]))
+        return self.compared(left, ["==", "!="], draws_nft.some(self.draw, draws_nft.ADDRESSES[self.network]))
+
+    def port(self, transport):
+        """A comparison of a port."""
+        left = draws_nft.payload(transport, self.draw.choice(["sport", "dport"]))
+        return self.compared(left, ["==", "!="], draws_nft.some(self.draw, PORTS))
+
+    def assumed(self, _):
+        """A comparison of what is assumed."""
+        name = self.draw.choice(["eth0", "eth*", "lo", {"set": ["lo", "eth1"]}])
+        return self.draw.choice([
+            self.compared({"meta": {"key": self.draw.choice(["iifname", "oifname"])}}, ["==", "!="], name),
+            draws_nft.comparison({"ct": {"key": "state"}}, "in", self.draw.sample(STATES, 2)),
+            self.compared({"ct": {"key": "state"}}, ["==", "!="], self.draw.choice(STATES))])
+
+    def other(self, _):
+        """A comparison of the family, or one of the other family, which no packet here meets."""
+        far = {"ip": "ip6", "ip6": "ip"}[self.network]
+        return self.draw.choice([
+            self.compared(draws_nft.payload(far, "saddr"), ["!="], draws_nft.ADDRESSES[far][0]),
+            self.compared({"meta": {"key": "nfproto"}}, ["==", "!="], self.draw.choice(["ipv4", "ipv6"]))])
+
+    def expression(self, later):
+        """The statements of a rule."""
+        transport = self.draw.choice(["tcp", "udp", "sctp"])
+        kinds = [self.field, self.field, self.port, self.port, self.assumed] + [self.other] * (self.table == "inet")
+        found = [self.draw.choice(kinds)(transport) for _ in range(self.draw.randrange(4))]
+        return found + draws_nft.verdict(self.draw, draws_nft.answers(self.table, self.network, transport), later)
 
 
-def port(draw, transport):
-    """A comparison of a port."""
-    left = draws_nft.payload(transport, draw.choice(["sport", "dport"]))
-    return draws_nft.comparison(left, draw.choice(["==", "!="]), draws_nft.some(draw, PORTS))
-
-
-def other(draw, _):
-    """A comparison of the family, or one of IPv6, which no packet here meets."""
-    six = draws_nft.comparison(draws_nft.payload("ip6", "saddr"), "!=", "2001:db8::1")
-    return draw.choice([six, draws_nft.comparison({"meta": {"key": "nfproto"}}, draw.choice(["==", "!="]),
-                                                  draw.choice(["ipv4", "ipv6"]))])
-
-
-def expression(draw, family, later):
-    """The statements of a rule."""
-    transport = draw.choice(["tcp", "udp", "sctp"])
-    kinds = [field, field, port, port] + [other] * (family == "inet")
-    found = [draw.choice(kinds)(draw, transport) for _ in range(draw.randrange(4))]
-    return found + draws_nft.verdict(draw, draws_nft.answers(family, "ip", transport), later)
-
-
-def objects(draw):
-    """The objects of a drawn ruleset."""
-    family, handles, chains = draw.choice(TABLES), iter(range(1, 100)), ["input", "one", "two"]
-    of = {"family": family, "table": "t"}
-    found = [{"metainfo": {"version": "1.0.6"}}, {"table": {"family": family, "name": "t", "handle": 1}}]
+def objects(draw, network):
+    """The objects of a drawn ruleset for packets of a family."""
+    table, handles, chains = draw.choice([network, "inet"]), iter(range(1, 100)), ["input", "one", "two"]
+    rules, of = Rules(draw, network, table), {"family": table, "table": "t"}
+    found = [{"metainfo": {"version": "1.0.6"}}, {"table": {"family": table, "name": "t", "handle": 1}}]
     found.append({"chain": {**of, "name": "input", "handle": next(handles), "type": "filter", "hook": "input",
                             "prio": 0, "policy": draw.choice(["accept", "drop"])}})
     found += [{"chain": {**of, "name": name, "handle": next(handles)}} for name in chains[1:]]
     return found + [{"rule": {**of, "chain": chain, "handle": next(handles),
-                              "expr": expression(draw, family, chains[place + 1:])}}
+                              "expr": rules.expression(chains[place + 1:])}}
                     for place, chain in enumerate(chains) for _ in range(draw.randrange(1, 5))]
 
 
-def options(chain, assumed="", data="line"):
-    """The options of a base chain of this name, for IPv4."""
-    return options_of("nft", "ruleset", chain=chain, family=4, data=data, assume=assume.parse(assumed))
+def options(chain, assumed="", data="line", family=4):
+    """The options of a base chain of this name, for a family."""
+    return options_of("nft", "ruleset", chain=chain, family=family, data=data, assume=assume.parse(assumed))
 
 
 def draw(draw):
-    """A ruleset with the base chain input."""
-    return Drawn([json.dumps(it) for it in objects(draw)], draws_nft.joined, options("input"),
-                 lambda text: walk_nft.Judge(text, "input", {}),
+    """A ruleset with the base chain input, and what is assumed."""
+    network = draw.choice(["ip", "ip6"])
+    assumed = f"in=eth{draw.randrange(2)},out=lo,state={draw.choice(STATES)}"
+    return Drawn([json.dumps(it) for it in objects(draw, network)], draws_nft.joined,
+                 options("input", assumed, family={"ip": 4, "ip6": 6}[network]),
+                 lambda text: walk_nft.Judge(text, "input", assumed_of(assumed)[0]),
                  (walk_nft.Unlawful, KeyError, TypeError, AttributeError, ValueError))
 
 
 def is_passed_over(name, said, refused):
     """Whether the program passes over an object: a table's own, one of a family that it doesn't know, or a rule that
-    compares the family, so that it may catch no packet of IPv4."""
+    compares the family, so that it may catch no packet that is asked for."""
     if name == "table":
         return not (isinstance(said.get("family"), str) and isinstance(said.get("name"), str))
     if name == "rule" and said.get("handle") == refused.number:

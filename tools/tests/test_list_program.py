@@ -206,14 +206,14 @@ class Rulesets(unittest.TestCase):
 class Asking(unittest.TestCase):
     """tools/convert over what stands in for the program."""
 
-    def convert(self, printed, said, code, *words, form="iptables", text=LIST):
+    def convert(self, printed, said, code, *words, form="iptables", family="4", text=LIST):
         """What tools/convert ends with, prints and says; and the words and the list that the program was given."""
         with tempfile.TemporaryDirectory() as folder:
             folder = Path(folder)
             (folder / "program").write_text(STAND_IN.format(folder, printed, said, code))
             (folder / "program").chmod(0o755)
             (folder / "fw").write_text(text)
-            done = tool("convert", form, "--family", "4", *words, folder / "fw",
+            done = tool("convert", form, "--family", family, *words, folder / "fw",
                         env={"ACLC_LISTS": str(folder / "program")})
             asked = [(folder / name).read_text() if (folder / name).exists() else None for name in ("words", "list")]
         return done, asked
@@ -245,6 +245,8 @@ class Asking(unittest.TestCase):
         self.assertEqual((code, said), (0, ""))
         self.assertIn("# Made by aclc-lists nft of fw, c. Userdata is the handle that decides.", printed)
         self.assertEqual(words, "nft\n/dev/stdin\nc\ndata=line\n")
+        _, (words, _) = self.convert(RULES, "", 0, "--table", "t", form="nft", family="6", text=text)
+        self.assertEqual(words, "nft6\n/dev/stdin\nc\ndata=line\n")
         silent = [*others, *(it for it in json.loads(text)["nftables"] if "metainfo" in it)]
         self.assertEqual(json.loads(given)["nftables"], [{"metainfo": {}} if it in silent else it
                                                          for it in json.loads(text)["nftables"]])
