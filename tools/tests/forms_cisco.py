@@ -14,7 +14,7 @@ PORT = rf"(?:eq|neq)(?: (?:{ONE}))+|(?:gt|lt) \S+|range \S+ \S+"
 ENTRY = re.compile(rf"(?:(\d+) )?(permit|deny) (object-group \S+|\S+) ({SPOT})(?: ({PORT}))? ({SPOT})(?: ({PORT}))?"
                    r"((?: log| log-input)*)")
 NUMBERED = {"tcp": 6, "udp": 17, "icmp": 1, "gre": 47, "esp": 50, "sctp": 132}
-COMMANDS = ("interface", "hostname", "ip route", "line", "logging", "router")
+COMMANDS = ("interface", "hostname", "ip route", "line", "logging", "router", "service")
 
 
 @lru_cache(None)
@@ -108,7 +108,7 @@ class Text:
 
     def matches(self, text, packet):
         """Whether an entry matches."""
-        entry = ENTRY.fullmatch(re.sub(r" (log|log-input) \w+$", r" \1", text))
+        entry = ENTRY.fullmatch(re.sub(r" (log|log-input) \S+$", r" \1", text))
         if not entry:
             raise Unknown(text)
         _, _, protocol, source, source_ports, destination, destination_ports, _ = entry.groups()

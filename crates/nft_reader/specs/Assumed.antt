@@ -47,9 +47,14 @@ abbrev pub may_be_named : Naming → List ℕ → Bool
 may_be_named naming.Name word = not (has_byte 92 word)
 may_be_named naming.Index word = not (has_byte star word)
 
--- a word names interfaces
+-- `@` stands before the name of a set
+abbrev pub at_sign : ℕ
+at_sign = 64
+
+-- a word names interfaces; one with `@` may be the name of a set
 abbrev pub is_interface_word : Naming → List ℕ → Bool
-is_interface_word manner word = is_interface star word && may_be_named manner word
+is_interface_word manner word =
+    is_interface star word && not (has_byte at_sign word) && may_be_named manner word
 
 -- a value names interfaces
 abbrev pub is_interface_value : Naming → Json → Bool

@@ -269,6 +269,13 @@ no_interface : said (of_interface (codes "\"==\"") (codes "\"iif\"") (codes "\"l
 unfolding json_on_literals with_statements with_objects
 no_interface = refl
 
+-- iifname @ours accept, which names a set
+interfaces_of_a_set : said_under (codes "in=@ours")
+    (of_interface (codes "\"==\"") (codes "\"iifname\"") (codes "\"@ours\""))
+    ≡ unsaid_by kind.CantSay
+unfolding json_on_literals with_statements with_objects
+interfaces_of_a_set = refl
+
 -- the same of packets of another one
 other_interface : said_under (codes "in=eth0")
     (of_interface (codes "\"==\"") (codes "\"iif\"") (codes "\"lo\"")) ≡ with_rules [] []

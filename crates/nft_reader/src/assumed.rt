@@ -19,6 +19,9 @@ use json::Value;
 /// What stands at the end of a name for whatever follows there.
 const STAR: u8 = b'*';
 
+/// What stands before the name of a set.
+const AT: u8 = b'@';
+
 /// Whether a word may stand so. Before a `*` that is part of a name nft prints `\`, and of an index
 /// it prints the name of one interface.
 fn may_be_named(naming: Naming, word: &[u8]) -> bool
@@ -30,11 +33,11 @@ fn may_be_named(naming: Naming, word: &[u8]) -> bool
     }
 }
 
-/// Whether a word names interfaces.
+/// Whether a word names interfaces. One with `@` may be the name of a set.
 fn is_interface_word(naming: Naming, word: &[u8]) -> bool
     ensures { result ≡ is_interface_word naming word.now }
 {
-    is_interface(STAR, word) && may_be_named(naming, word)
+    is_interface(STAR, word) && !word.contains(&AT) && may_be_named(naming, word)
 }
 
 /// Whether a value names interfaces.
