@@ -38,8 +38,8 @@ RUNS = {
     "audit": ["audit", "many.rules"],
     "session": ["session", "long.script"],
 }
-# A packet by lanes takes about four thirds of what it takes by the other, and the tables of the run the same.
-LANES_TO_SCALAR = 1.1
+# A packet by lanes takes some 35 instructions more than by the other, of about 400, and the tables of the run the same.
+LANES_TO_SCALAR = 1.02
 
 
 def make_files(folder):
