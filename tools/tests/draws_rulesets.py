@@ -89,6 +89,12 @@ def draw(draw):
                  (walk_nft.Unlawful, KeyError, TypeError, AttributeError, ValueError))
 
 
+def without(text, handle):
+    """A ruleset without the rule of a handle."""
+    kept = [it for it in json.loads(text)["nftables"] if it.get("rule", {}).get("handle") != handle]
+    return json.dumps({"nftables": kept})
+
+
 def is_passed_over(name, said, refused):
     """Whether the program passes over an object: a table's own, one of a family that it doesn't know, or a rule that
     compares the family, so that it may catch no packet that is asked for."""

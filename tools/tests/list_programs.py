@@ -2,9 +2,9 @@
 """Lists of iptables, of Cisco's IOS and of nft by the program aclc-lists, beside tools/convert and their own judges.
 
 The program takes what iptables-save prints, and tools/convert also takes what people write, as masks and words in
-another order. Of a configuration the program takes extended lists without groups of services, and knows each line before
-it passes over it. So a list may be one that the program alone refuses. It alone takes a list only where the line that
-the tools refuse is one of another list. It takes a ruleset if what they refuse is a rule that no packet comes to, a
+another order. Of a configuration the program takes extended lists without groups of services, and knows each line
+before it passes over it. So a list may be one that the program alone refuses. It alone takes a list only where the line
+that the tools refuse is one of another list. It takes a ruleset if what they refuse is a rule that no packet meets, a
 table's own object, or a handle that comes twice.
 """
 import random
@@ -76,6 +76,14 @@ def differing(rules, wanted, judge, draw):
             yield f"packet {fields}: {decided(rules, fields)} by the program, {said} by the list"
 
 
+def decides_without(drawn, text, refused, made, draw):
+    """Whether the program decides as a ruleset does without the rule that the tools refuse, which no packet meets."""
+    try:
+        return not any(differing(rules_of(made), [], drawn.judge(draws_rulesets.without(text, refused.number)), draw))
+    except drawn.unlawful:
+        return False
+
+
 def judged(drawn, text, draw):
     """What became of a list: `same`, `both refuse`, `program refuses`, `no part`, or a sentence that tells a fault."""
     made, (wanted, refused) = by_program(drawn.options, text), by_converter(drawn.options, text)
@@ -86,7 +94,8 @@ def judged(drawn, text, draw):
     try:
         found = next(differing(rules_of(made), rules_of(wanted or ""), drawn.judge(text), draw), None)
     except drawn.unlawful as error:
-        return "no part" if refused and allowed else f"it isn't lawful, and was taken: {error}"
+        idle = refused and (allowed or form == "nft" and decides_without(drawn, text, refused, made, draw))
+        return "no part" if idle else f"it isn't lawful, and was taken: {error}"
     if refused and not found and not allowed and form != "nft":
         return f"the converter refuses what the program takes: {refused.reason}"
     if found or refused:
