@@ -1,0 +1,7 @@
+mod Asking
+mod Choosing
+mod Copying
+mod Covering
+mod Fields
+mod Keeping
+mod Staying
