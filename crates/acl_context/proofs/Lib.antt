@@ -2,4 +2,5 @@ mod Adding
 mod Building
 mod Refusals
 mod Serving
+mod Uncovered
 pub mod Offered

@@ -10,12 +10,13 @@ ghost use Rattle.flat_table.specs.Batch.{KeysFit, batch_verdicts, batch_transiti
 ghost use Rattle.flat_table.specs.Batch.{keys_of_len, most_of_batch};
 ghost use Rattle.flat_table.specs.Table.{words_of};
 ghost use Rattle.table_fill.specs.Serves.{Serves};
+ghost use Rattle.covered_rules.specs.Covered.{uncovered_set};
 ghost use Rattle.acl_context.specs.Context.{built_of, rule_view, with_rules};
 ghost use Rattle.acl_context.specs.Add.{Adds};
-ghost use Rattle.acl_context.specs.Batch.{verdicts_by_rules};
+ghost use Rattle.acl_context.specs.Batch.{DecidesAs, verdicts_by_rules};
 
 use crate::add::{AddFault, Given, check_all, push_all};
-use crate::build::{BuildFault, make_table};
+use crate::build::{BuildFault, make_table, make_uncovered, uncovered_decide};
 use batch_walk::classify_by;
 use field_defs::Layout;
 use flat_table::{Steps, Table, Walk};
@@ -148,6 +149,36 @@ impl AclContext {
             }
             Err(fault) => Err(fault),
         }
+    }
+
+    /// Makes the table of the rules that no wide rule before them covers, in place of that of all.
+    ///
+    /// Its verdicts are those of all rules that are held, and most often it has fewer words. A rule
+    /// is covered if one of greater rank has its categories and lets through all that it does.
+    /// Budget, faults and memory are those of [`AclContext::build`], with the uncovered rules for
+    /// all, and it takes memory for copies of these rules, which it gives back.
+    pub fn build_uncovered(&mut self, budget: u64) -> Result<(), BuildFault>
+        requires some { 0 < budget }
+        requires budget { budget ≤ max_words }
+        ensures table { OnOk result (self.new ≡ record self.old {
+          table = Some (built_of (uncovered_set self.old.set) budget);
+        }) }
+        // The new table answers for each key and category as the uncovered rules do.
+        ensures serves { OnOk result (Serves (uncovered_set self.old.set)
+            (built_of (uncovered_set self.old.set) budget)) }
+        // And these decide as all rules that are held.
+        ensures decides { DecidesAs (uncovered_set self.old.set) self.old.set }
+        ensures fits { OnOk result (total_of (uncovered_set self.old.set) budget ≤ budget) }
+        ensures words { OnOk result (words_of (built_of (uncovered_set self.old.set) budget)
+            ≡ total_of (uncovered_set self.old.set) budget) }
+        ensures too_large { (words most : ℕ) → result ≡ Err (BuildFault.TooLarge words most) →
+            (words ≡ total_of (uncovered_set self.old.set) budget) × (most ≡ budget)
+            × (budget < words) }
+        ensures err { OnErr result (self.new ≡ self.old) }
+    {
+        uncovered_decide(&self.rules);
+        self.table = Some(make_uncovered(self.alloc, &self.rules, budget)?);
+        Ok(())
     }
 
     /// Writes the verdicts of the keys of a batch by the table, and says how many transitions their

@@ -173,3 +173,34 @@ fn set_of_one(alloc: Global) -> Result<RuleSet, Fail> {
     set.push(wild(1, 7).store(alloc)?)?;
     Ok(set)
 }
+
+/// A rule of the IPv4 layout for a source and a range of destination ports.
+fn to_ports(source: FieldValue, low: u64, high: u64, userdata: u32) -> Rule<5> {
+    let wild = wild(1, userdata);
+    let [protocol, _, destination, port, _] = wild.fields;
+    let to = FieldValue::Range { low, high };
+    Rule {
+        tag: wild.tag,
+        fields: [protocol, source, destination, port, to],
+    }
+}
+
+// For the first rule alone the last four bytes of a key are kept: a word for each byte of the
+// source port, and five for each of the other, where numbers run two ways. Two rows have 16 each.
+#[test]
+fn a_covered_rule_has_no_words(rt: HostRuntime) -> Result<(), Fail> {
+    let mut scratch = Scratch::new(rt.alloc(), 2)?;
+    let mut context = AclContext::create(rt.alloc(), ip4_layout(), 2);
+    let any = FieldValue::Mask { value: 0, bits: 0 };
+    let ten = FieldValue::Mask {
+        value: 0x0A00_0000,
+        bits: 8,
+    };
+    context.add_rules(&[to_ports(any, 0, 79, 7), to_ports(ten, 53, 53, 8)])?;
+    assert!(rt; context.build(44).is_err());
+    context.build_uncovered(44)?;
+    expect(&rt, &mut scratch, &context, Some([7, 0]));
+    context.build(1000)?;
+    expect(&rt, &mut scratch, &context, Some([7, 0]));
+    Ok(())
+}
