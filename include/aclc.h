@@ -249,6 +249,11 @@ aclc_code aclc_add_rules(struct aclc_context *context, const struct aclc_rule *r
 /*
  * aclc_build - makes the table of the rules that the context holds, in place of the one before.
  *
+ * It leaves out rules that a wide one before them covers, which can't win: that one has no lower
+ * priority, has all their categories, and lets through all that they do. Words, and the rules of
+ * which aclc_table_sizes tells, are of the others. A rule is wide if three fifths of the key's
+ * bytes or more are of fields that let through everything.
+ *
  * budget: how many words of 8 bytes the table may have, from 1 to ACLC_MAX_WORDS; or 0: then it
  * is 8,388,608 (64 MiB) if the table fits in that, and else ACLC_MAX_WORDS, after a second build.
  * words: on ACLC_OK the words of the new table, on ACLC_TOO_LARGE those at which the split ended,
@@ -428,8 +433,8 @@ aclc_code aclc_table_marks(struct aclc_table *table, const uint8_t *keys, size_t
                            uint32_t categories, uint8_t *marks, size_t marks_len);
 
 /*
- * aclc_table_sizes - tells of how many rules the table was made, how many bytes a key has, and how
- * many words the table has.
+ * aclc_table_sizes - tells of how many rules the table was made, without those that aclc_build
+ * left out, how many bytes a key has, and how many words the table has.
  *
  * ACLC_EMPTY: the handle is empty. It takes no memory.
  */

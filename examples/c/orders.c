@@ -401,12 +401,35 @@ static void share(struct aclc_table *table, const struct expected *is, struct ac
     of->lanes = 0;
 }
 
+/* Of how many rules a table is: those that none before them covers, of any address and kept itself. */
+static size_t uncovered(const struct expected *is) {
+    size_t kept = 0, wide[MOST], wides = 0;
+    for (size_t i = 0; i < is->built_rules; i++) {
+        const struct aclc_rule *rule = &is->built_rule[i];
+        const struct aclc_value *value = is->built_value[i];
+        int covered = 0;
+        for (size_t j = 0; j < wides; j++) {
+            const struct aclc_rule *other = &is->built_rule[wide[j]];
+            const struct aclc_value *range = is->built_value[wide[j]];
+            covered |= rule->priority <= other->priority
+                       && (rule->category_mask & ~other->category_mask) == 0
+                       && range->value <= value->value && value->mask_range <= range->mask_range;
+        }
+        if (covered)
+            continue;
+        kept++;
+        if (value[1].mask_range == 0)
+            wide[wides++] = i;
+    }
+    return kept;
+}
+
 static void table_sizes(struct aclc_table *table, const struct expected *is) {
     size_t rules = 77, key_len = 77;
     uint64_t words = 0;
     aclc_code code = aclc_table_sizes(table, &rules, &key_len, &words);
     expect("aclc_table_sizes", code, is->held ? ACLC_OK : ACLC_EMPTY);
-    if (is->held && (rules != is->built_rules || key_len != KEY_LEN || words == 0))
+    if (is->held && (rules != uncovered(is) || key_len != KEY_LEN || words == 0))
         fail("aclc_table_sizes tells other sizes");
 }
 

@@ -5,13 +5,14 @@ use Rattle.std.specs.Prelude.{Option, Some, None, IsSome, IfSome, Result, Ok, Er
 use Rattle.std.specs.List.{list_any}
 use Rattle.field_defs.specs.declared.field.FieldDef.{FieldDef}
 use Rattle.table_sizes.specs.Sizes.{max_words}
+use Rattle.covered_rules.specs.Covered.{uncovered_set}
 use Rattle.rule_split.specs.Split.{total_of}
 use Rattle.table_fill.specs.Serves.{Serves}
 use Rattle.acl_context.specs.Context.{built_of, with_rules}
 use Rattle.acl_context.specs.declared.add.AddFault.{AddFault}
 use Rattle.acl_context.specs.declared.add.AddFault.TheVariants as faults
 use Rattle.acl_context.specs.Add.{add_fault}
-use Rattle.acl_context.specs.Batch.{verdicts_by_rules}
+use Rattle.acl_context.specs.Batch.{DecidesAs, verdicts_by_rules}
 use Rattle.acl_c.specs.Codes.{ok, no_memory, bad_budget, too_large, bad_length, full, not_built}
 use Rattle.acl_c.specs.Codes.{rule_code, too_many_keys}
 use Rattle.acl_c.specs.Rules.{are_whole, rules_from}
@@ -41,9 +42,9 @@ budget_by total given =
     then (if nat_le (total first_budget) first_budget then first_budget else max_words)
     else given
 
--- that of a build of a set
+-- that of a build of the uncovered rules of a set
 abbrev pub budget_of : RuleSetView → ℕ → ℕ
-budget_of set given = budget_by (total_of set) given
+budget_of set given = budget_by (total_of (uncovered_set set)) given
 
 -- the code is one of these
 abbrev pub is_among : List ℕ → ℕ → Bool
@@ -74,13 +75,18 @@ abbrev pub without_rules : Context → Context
 without_rules held = record held { acl = with_rules held.acl [] }
 
 -- What a build makes of what a handle leads to, of the words that it tells, and what it answers.
+-- The table is that of the uncovered rules, which decide as all do.
 pub record Builds (budget : ℕ) (old : Context) (new : Option Context) (before after code : ℕ) :
     Type 0 where
-  pub built : code ≡ ok → new ≡ Some (with_table old (built_of old.acl.set budget))
-  pub serves : code ≡ ok → Serves old.acl.set (built_of old.acl.set budget)
-  pub fits : code ≡ ok → total_of old.acl.set budget ≤ budget
-  pub words : code ≡ ok → after ≡ total_of old.acl.set budget
-  pub large : code ≡ too_large → (after ≡ total_of old.acl.set budget) × (budget < after)
+  pub built : code ≡ ok →
+      new ≡ Some (with_table old (built_of (uncovered_set old.acl.set) budget))
+  pub serves : code ≡ ok →
+      Serves (uncovered_set old.acl.set) (built_of (uncovered_set old.acl.set) budget)
+  pub decides : code ≡ ok → DecidesAs (uncovered_set old.acl.set) old.acl.set
+  pub fits : code ≡ ok → total_of (uncovered_set old.acl.set) budget ≤ budget
+  pub words : code ≡ ok → after ≡ total_of (uncovered_set old.acl.set) budget
+  pub large : code ≡ too_large →
+      (after ≡ total_of (uncovered_set old.acl.set) budget) × (budget < after)
   pub other : is_among (ok ∷ too_large ∷ []) code ≡ false → after ≡ before
   pub kept : (code == ok) ≡ false → new ≡ Some old
   pub answer : is_budget budget ≡ true → is_among (ok ∷ no_memory ∷ too_large ∷ []) code ≡ true

@@ -3,13 +3,14 @@
 ghost use Rattle.std.specs.Prelude.{◌≡◌, ℕ, ◌<◌, ◌≤◌, ◌⊎◌, [], ◌∷◌, ◌==◌, length, IfOk, IfSome};
 ghost use Rattle.std.specs.Prelude.{true, false, Some, None, Err, MatchResult};
 ghost use Rattle.rule_set.specs.Rule.{RuleSetView};
+ghost use Rattle.covered_rules.specs.Covered.{uncovered_set};
 ghost use Rattle.rule_split.specs.Split.{total_of};
 ghost use Rattle.table_fill.specs.Serves.{Serves};
 ghost use Rattle.flat_table.specs.Table.{TableView};
 ghost use Rattle.table_sizes.specs.Sizes.{max_keys};
 ghost use Rattle.flat_table.specs.Batch.{batch_verdicts, batch_transitions};
 ghost use Rattle.acl_context.specs.Context.{built_of};
-ghost use Rattle.acl_context.specs.Batch.{verdicts_by_rules};
+ghost use Rattle.acl_context.specs.Batch.{DecidesAs, verdicts_by_rules};
 ghost use Rattle.acl_c.specs.Codes.{ok, no_memory, not_built, bad_budget, too_large, too_many_keys};
 ghost use Rattle.acl_c.specs.Shared.{without_lanes};
 ghost use Rattle.acl_c.specs.Calls.{is_budget, with_table, without_rules, without_all, words_in, is_among};
@@ -79,8 +80,9 @@ impl Context {
         }
     }
 
-    /// Makes the table of the rules under a budget, and tells its words, or those that it would
-    /// need. By 0 the budget is the first one, and if the table doesn't fit in it, the greatest.
+    /// Makes the table of the uncovered rules under a budget, and tells its words, or those that it
+    /// would need. By 0 the budget is the first one, and if the table doesn't fit in it, the
+    /// greatest.
     pub(crate) fn build(&mut self, budget: u64, words: &mut u64) -> u32
         ensures { Builds (budget_of self.old.acl.set budget) self.old (Some self.new)
             words.old words.new result }
@@ -97,17 +99,21 @@ impl Context {
         code
     }
 
-    /// Makes the table of the rules under this budget, and tells its words, or those that it would
-    /// need.
+    /// Makes the table of the uncovered rules under this budget, and tells its words, or those that
+    /// it would need.
     fn build_within(&mut self, budget: u64, words: &mut u64) -> u32
         ensures built { result ≡ ok →
-            self.new ≡ with_table self.old (built_of self.old.acl.set budget) }
-        ensures serves { result ≡ ok →
-            Serves self.old.acl.set (built_of self.old.acl.set budget) }
-        ensures fits { result ≡ ok → total_of self.old.acl.set budget ≤ budget }
-        ensures words { result ≡ ok → words.new ≡ total_of self.old.acl.set budget }
+            self.new ≡ with_table self.old (built_of (uncovered_set self.old.acl.set) budget) }
+        ensures serves { result ≡ ok → Serves (uncovered_set self.old.acl.set)
+            (built_of (uncovered_set self.old.acl.set) budget) }
+        ensures decides { result ≡ ok →
+            DecidesAs (uncovered_set self.old.acl.set) self.old.acl.set }
+        ensures fits { result ≡ ok → total_of (uncovered_set self.old.acl.set) budget ≤ budget }
+        ensures words { result ≡ ok →
+            words.new ≡ total_of (uncovered_set self.old.acl.set) budget }
         ensures large { result ≡ too_large →
-            (words.new ≡ total_of self.old.acl.set budget) × (budget < words.new) }
+            (words.new ≡ total_of (uncovered_set self.old.acl.set) budget)
+            × (budget < words.new) }
         ensures other { is_among (ok ∷ too_large ∷ []) result ≡ false → words.new ≡ words.old }
         ensures kept { (result == ok) ≡ false → self.new ≡ self.old }
         ensures answer { is_budget budget ≡ true →
@@ -117,7 +123,7 @@ impl Context {
         if budget == 0 || budget > MAX_WORDS as u64 {
             return BAD_BUDGET;
         }
-        match self.acl.build(budget) {
+        match self.acl.build_uncovered(budget) {
             Ok(()) => {
                 *words = self.words();
                 OK
