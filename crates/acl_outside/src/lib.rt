@@ -12,11 +12,14 @@
 //! - `mem_desk`, `made_file`, `mem_sink`, `listed`: files and output in memory, which fail where
 //!   they are told to
 //! - `std_desk`, `read_buffer`, `std_sink`: files and output streams of the system
+//! - `held_streams`: the null device in the place of standard streams that are closed
+//! - `words`: the words of the system's command line
 //! - `transcript`: what was asked and answered, which only clauses read
 //! - `laws`: what was heard of a file and what is left to read of it are the file
 #![tactic(auto)]
 
 mod desk;
+mod held_streams;
 pub mod laws;
 mod listed;
 mod made_file;
@@ -28,9 +31,11 @@ mod sink;
 mod std_desk;
 mod std_sink;
 mod transcript;
+mod words;
 mod writing;
 
 pub use desk::{Desk, Failed};
+pub use held_streams::{HeldStreams, held_stream};
 pub use mem_desk::{MemDesk, MemFile};
 pub use mem_sink::MemSink;
 pub use read_buffer::read_once;
@@ -38,4 +43,5 @@ pub use reading::{ReadAll, read_up_to};
 pub use sink::Sink;
 pub use std_desk::StdDesk;
 pub use std_sink::StdSink;
+pub use words::system_words;
 pub use writing::{put_all, write_all};

@@ -19,8 +19,6 @@
 //! | `tables` | the rules in the contexts of both families, and their tables |
 //! | `text` | a text that is put whole |
 //! | `program` | a command over the files and streams of the system, and its exit code |
-//! | `words` | the words of the system |
-//! | `held_streams` | the null device in the place of closed streams |
 #![tactic(auto)]
 
 mod audit;
@@ -28,7 +26,6 @@ mod bench;
 mod build;
 mod classify;
 mod compare;
-mod held_streams;
 pub mod laws;
 mod program;
 mod replay;
@@ -37,16 +34,13 @@ mod session;
 mod tables;
 mod text;
 mod tool;
-mod words;
 
 pub use capture_report::{PrintOptions, print_packets};
 pub use classbench_reader::{LineFault, LineKind};
 pub use command_ending::Status;
 pub use command_words::{UsageFault, UsageKind};
 pub use field_defs::Family;
-pub use held_streams::held_stream;
 pub use pcap_reader::CaptureFault;
 pub use program::{exit_code, run_over, run_program, run_words};
 pub use table_image::{ImageFault, ImageKind};
 pub use tool::run;
-pub use words::system_words;

@@ -8,10 +8,8 @@ ghost use Rattle.command_ending.specs.StepEffects.{outside};
 ghost use Rattle.acl_tool.specs.CommandEffects.{Runs};
 ghost use Rattle.acl_tool.specs.RunsAnew.{RunsAnew};
 
-use crate::held_streams::HeldStreams;
 use crate::tool::run;
-use crate::words::system_words;
-use acl_outside::{Desk, Sink, StdDesk, StdSink};
+use acl_outside::{Desk, HeldStreams, Sink, StdDesk, StdSink, system_words};
 use flat_table::Steps;
 use std::alloc::Global;
 use std::io::Write;

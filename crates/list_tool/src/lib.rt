@@ -13,10 +13,8 @@
 //! | `status` | how a run ended, and what in a list is refused |
 //! | `message` | the line that tells it |
 //! | `program` | a run over the files and streams of the system, and its exit code |
-//! | `held_streams` | the null device in the place of closed streams |
 #![tactic(auto)]
 
-mod held_streams;
 mod listing;
 mod message;
 mod printing;

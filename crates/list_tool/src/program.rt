@@ -6,12 +6,9 @@ ghost use Rattle.list_tool.specs.declared.status.ListStatus.{ListStatus};
 ghost use Rattle.list_tool.specs.Message.{code_of};
 ghost use Rattle.list_tool.specs.RunsAnew.{RunsAnew};
 
-use crate::held_streams::HeldStreams;
 use crate::tool::run_lists;
-use acl_outside::{StdDesk, StdSink};
-use std::alloc::{Alloc, Global};
-use std::env;
-use std::env::Env;
+use acl_outside::{HeldStreams, StdDesk, StdSink, system_words};
+use std::alloc::Global;
 use std::io::Write;
 use std::os::fd::AsRawFd;
 use std::process::ExitCode;
@@ -97,11 +94,4 @@ fn after_name(all: &[String]) -> &[String]
         [] => &[],
         [_, words @ ..] => words,
     }
-}
-
-/// All words of the system's command line, which begin with the program's name, or `None` where it
-/// can't give them: one isn't UTF-8, or there is no memory for them.
-fn system_words<R: Env + Alloc<A = Global>>(rt: &R) -> Option<Vec<String>> {
-    let args = env::args(rt).ok()?;
-    args.collect(rt.alloc()).ok()
 }

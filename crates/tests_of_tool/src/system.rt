@@ -1,6 +1,7 @@
 //! The program over files of the system, the words that the system gives, and closed streams.
 
-use acl_tool::{held_stream, run_over, system_words};
+use acl_outside::{held_stream, system_words};
+use acl_tool::run_over;
 use std::alloc::{AllocError, Global};
 use std::env::FillError;
 use std::fs;

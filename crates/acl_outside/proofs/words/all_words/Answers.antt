@@ -5,7 +5,7 @@ use Rattle.std.specs.Vec.{vec_items}
 use Rattle.std.specs.Vec.Iter.{into_iter_items}
 use Rattle.std.specs.Result.{result_ok}
 use Rattle.std.specs.declared.vec.Vec.{Vec}
-use Rattle.acl_tool.proofs.words.all_words.Goals as goal
+use Rattle.acl_outside.proofs.words.all_words.Goals as goal
 
 -- what is known of a value is known where it is kept
 kept : {A Z E : Type 0} (xs : List A) (result : Result (Vec A Z) E) → IfOk result (λ v. vec_items v ≡ xs) →
