@@ -106,7 +106,8 @@ fn family_name(family: Family) -> &'static [u8]
     }
 }
 
-fn usage_kind(kind: UsageKind) -> &'static [u8]
+/// What is wrong with a word of a command line, in at most 40 bytes of ASCII. It takes no memory.
+pub fn usage_kind(kind: UsageKind) -> &'static [u8]
     ensures text { result.now ≡ usage_text kind }
     ensures short { length result.now ≤ 40 }
 {
