@@ -25,7 +25,8 @@ abbrev pub IsLawfulFor : Family → RuleView → Type 0
 IsLawfulFor its rule = rule_fault (fields_of its) rule.tag rule.fields ≡ None
 
 -- lawful rules whose addresses have prefixes can be said
-pub printable : (its : Family) (form : Form) (lines : List (List ℕ)) (by_line : List RuleView) (place : ℕ) (rules : List RuleView) →
+pub printable : (its : Family) (form : Form) (lines : List (List ℕ)) (by_line : List RuleView) (place : ℕ)
+    (rules : List RuleView) →
     AllByRecursion (IsLawfulFor its) rules → first_odd its by_line place rules ≡ None →
     AllByRecursion (IsPrintableLine its) (commented form lines by_line place rules)
 printable its form lines by_line place [] lawful none = tt

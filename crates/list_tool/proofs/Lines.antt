@@ -24,7 +24,8 @@ module _ {X : Type 0} (f : X → List ℕ) (items : List X) (left : List ℕ) (a
   all_lines none = sym (append-nil (map f items)) ∙ ap (λ xs. map f items ++ xs) (sym none) ∙ so_far
 
 -- one rule more was put, after its comment
-pub more_rules : (form : Form) (lines : List (List ℕ)) (by_line rules : List RuleView) (place : ℕ) (old new all : List LineView)
+pub more_rules : (form : Form) (lines : List (List ℕ)) (by_line rules : List RuleView) (place : ℕ)
+    (old new all : List LineView)
     (rule other : RuleView) → Writes (commented form lines by_line place) rules place old all → place < length rules →
     rule ≡ get_or rules place other →
     new ≡ old

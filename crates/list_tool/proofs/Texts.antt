@@ -49,7 +49,8 @@ module _ (form : Form) (bytes : List ℕ) (by_line rules : List RuleView) (text 
 
   -- it is read as the rules
   pub text_read : length rules ≤ max_rules → nat_lt max_rule_file (length text) ≡ false →
-      ReadsBack (family_of form) (commented form (lines_of bytes) by_line 0 rules) → rule_file_of text ≡ Ok (lists_of (family_of form) rules)
+      ReadsBack (family_of form) (commented form (lines_of bytes) by_line 0 rules) →
+      rule_file_of text ≡ Ok (lists_of (family_of form) rules)
   text_read few short reads =
       let kept = rules_kept form (lines_of bytes) by_line 0 rules in
       let fits : length (list_text (family_of form) (commented form (lines_of bytes) by_line 0 rules)) ≤ max_rule_file =

@@ -68,10 +68,11 @@ pub record WayView : Type 0 where
 abbrev pub at_place : ListPlace → ListKind → ListFault
 at_place place kind = record { place = place; kind = kind }
 
--- the same in the line of a number, and in the object of a number
+-- the same in the line of a number
 abbrev pub at_line : ℕ → ListKind → ListFault
 at_line line kind = at_place (placed.Line line) kind
 
+-- the same in the object of a number
 abbrev pub at_object : ℕ → ListKind → ListFault
 at_object number kind = at_place (placed.Object number) kind
 

@@ -133,12 +133,13 @@ list_text kind.TooManySteps = codes "too many ways through the chains"
 list_text kind.NoPrefix = codes "addresses without a prefix"
 list_text kind.TextTooLong = codes "rule file too long"
 
--- what a place is called, and its number
+-- what a place is called, before its number
 abbrev pub place_text : ListPlace → List ℕ
 place_text (placed.Line number) = codes "list: line "
 place_text (placed.Object number) = codes "list: object "
 place_text (placed.Handle number) = codes "list: handle "
 
+-- the number of a place
 abbrev pub place_number : ListPlace → ℕ
 place_number (placed.Line number) = number
 place_number (placed.Object number) = number

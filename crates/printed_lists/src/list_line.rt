@@ -31,10 +31,10 @@ pub enum ListLine<'a> {
 
 /// Writes the lines of a list after a text, each ended by LF.
 ///
-/// A comment is `# ` and its text, in which LF and CR become `?` and each other byte stays. A number
-/// after it is written in decimal. A rule has the line of [`print_rule`]: all are of one family, and
-/// a line can say each of them. What is written is a rule file of these rules, if they are at most
-/// 262,144 and it has at most 16,777,216 bytes.
+/// A comment is `# ` and its text, in which LF and CR become `?` and each other byte stays. A
+/// number after it is written in decimal. A rule has the line of [`print_rule`]: all are of one
+/// family, and a line can say each of them. What is written is a rule file of these rules, if they
+/// are at most 262,144 and it has at most 16,777,216 bytes.
 ///
 /// It takes the memory of the text, and of one line more meanwhile. If that isn't there, some of
 /// the lines may have been written.

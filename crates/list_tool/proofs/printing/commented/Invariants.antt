@@ -8,5 +8,6 @@ use Rattle.list_tool.proofs.printing.commented.Given as goal
 -- those of the rules that are left come after them
 abbrev pub invariant-loop-place : goal.invariant-loop-place
 invariant-loop-place l =
-    Writes (commented l.form (map (λ text. text.now) l.texts) l.by_line l.place) l.rules l.place (line_views l.lines.items)
+    Writes (commented l.form (map (λ text. text.now) l.texts) l.by_line l.place) l.rules l.place
+    (line_views l.lines.items)
     (commented l.form (map (λ text. text.now) l.texts) l.by_line 0 l.rules)
