@@ -1,13 +1,9 @@
 -- Loops that make something element by element, up to the first fault.
-use Rattle.std.proofs.Common.{◌≡◌, ℕ, ◌+◌, ◌<◌, ◌≤◌, List, length, drop, get_or, Result, Ok}
+use Rattle.std.proofs.Common.{◌≡◌, ℕ, ◌+◌, ◌<◌, List, length, drop, get_or, Result, Ok}
 use Rattle.std.proofs.Common.{refl, ap, ◌∙◌}
-use Rattle.std.proofs.lemmas.List.{drop_all}
 use Rattle.list_lemmas.proofs.Loops.{left_is}
-use Rattle.cisco_reader.specs.declared.fault.CiscoFault.{CiscoFault}
-use Rattle.cisco_reader.specs.declared.fault.CiscoFault.TheVariants as cisco
 use Rattle.cisco_reader.specs.declared.fault.LineFault.{LineFault}
 use Rattle.cisco_reader.specs.Read.{◌>>=◌, all_after}
-use Rattle.cisco_reader.specs.Stops.{Fails}
 
 -- of some elements so many were gone over, and those that are left make of this state what all make
 pub record IsMadeUpTo {S X : Type 0} (step : S → X → Result S LineFault) (start : S) (xs : List X) (k : ℕ)
@@ -34,18 +30,3 @@ made_more {step = step} {xs = xs} {k = k} d so_far below is said = record {
   same = next_then d so_far below is
       ∙ ap (λ (made : Result _ LineFault). made >>= λ next. all_after step next (drop (k + 1) xs)) said;
 }
-
--- or it isn't, and then all aren't
-pub not_made : {S X : Type 0} {step : S → X → Result S LineFault} {start : S} {xs : List X} {k : ℕ} {state : S} {x : X}
-    (d : X) → IsMadeUpTo step start xs k state → k < length xs → x ≡ get_or xs k d → (fault : CiscoFault) →
-    Fails (step state x) fault → Fails (all_after step start xs) fault
-not_made {step = step} {xs = xs} {k = k} d so_far below is (cisco.Line fault) said =
-    next_then d so_far below is
-    ∙ ap (λ (made : Result _ LineFault). made >>= λ next. all_after step next (drop (k + 1) xs)) said
-not_made d so_far below is cisco.OutOfMemory said = tt
-
--- at the end all are
-pub made_all : {S X : Type 0} {step : S → X → Result S LineFault} {start : S} {xs : List X} {k : ℕ} {state : S} →
-    IsMadeUpTo step start xs k state → length xs ≤ k → all_after step start xs ≡ Ok state
-made_all {step = step} {xs = xs} {k = k} {state = state} so_far end =
-    so_far.same ∙ ap (all_after step state) (drop_all k xs end)
