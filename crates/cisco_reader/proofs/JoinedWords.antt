@@ -1,48 +1,36 @@
 -- The words of an entry that is read: each part is read off the front of them.
-use Rattle.std.proofs.Common.{◌≡◌, ℕ, Bool, true, false, List, [], ◌∷◌, ◌++◌, Some, None, Option, Ok, Err, Result, map, length}
-use Rattle.std.proofs.Common.{refl, sym, ap, ◌∙◌, subst, inl, inr, append_assoc, append-nil, nat_le, nat_lt, ◌==◌, ◌&&◌, not}
+use Rattle.std.proofs.Common.{◌≡◌, ℕ, true, false, List, [], ◌∷◌, ◌++◌, Some, None, Option, Ok, Err, Result}
+use Rattle.std.proofs.Common.{refl, sym, ap, ◌∙◌, subst, inl, inr, nat_lt}
 use Rattle.std.proofs.lemmas.Bool.{cases_Bool, cond-true, cond-false}
 use Rattle.std.specs.Prelude.{codes}
 use Rattle.std.specs.Str.{bytes_eq}
 use Rattle.list_chains.specs.declared.span.Span.{Span}
 use Rattle.cisco_reader.specs.declared.entry.Addresses.{Addresses}
 use Rattle.cisco_reader.specs.declared.entry.Addresses.TheVariants.{Group, Under}
-use Rattle.cisco_reader.specs.declared.ports.Operator.{Operator}
-use Rattle.cisco_reader.specs.declared.ports.Operator.TheVariants as operator
-use Rattle.cisco_reader.specs.declared.ports.PortPart.{PortPart}
+use Rattle.cisco_reader.specs.declared.entry.Carried.{Carried}
+use Rattle.cisco_reader.specs.declared.entry.Carried.TheVariants as carried
+use Rattle.cisco_reader.specs.declared.entry.Services.{Services}
+use Rattle.cisco_reader.specs.declared.entry.Services.TheVariants as services
 use Rattle.cisco_reader.specs.declared.entry.Side.{Side}
 use Rattle.cisco_reader.specs.declared.entry.Entry.{Entry}
+use Rattle.cisco_reader.specs.declared.entry.Verdict.{Verdict}
+use Rattle.cisco_reader.specs.declared.ports.PortPart.{PortPart}
+use Rattle.cisco_reader.specs.declared.protocols.Protocols.TheVariants.{Between}
+use Rattle.cisco_reader.specs.declared.services.Service.{Service}
 use Rattle.cisco_reader.specs.declared.fault.LineKind.{LineKind}
-use Rattle.cisco_reader.specs.declared.fault.LineKind.TheVariants.{BadAddress, BadMask, BadPort}
+use Rattle.cisco_reader.specs.declared.fault.LineKind.TheVariants.{BadAddress, BadMask}
 use Rattle.cisco_reader.specs.Entry as entries
-use Rattle.cisco_reader.specs.Entry.{addresses_of, all_ones, checked, entry_of, grouped, has_ports, compares_ports, is_log, is_told, known, log_fault, masked, max_gaps, option_fault, options_fault, protocols, protocols_of, side_of, sides, under, unless, with_destination, with_mask}
+use Rattle.cisco_reader.specs.Entry.{addresses_of, all_ones, carried_of, entry_with, is_log, log_fault, masked, max_gaps, named_group, options_fault, protocols_in, services_with, side_of, sides, under, unless, with_destination, with_mask}
 use Rattle.cisco_reader.specs.Groups.{ListedGroup, place_for}
-use Rattle.cisco_reader.specs.Names.{port_of}
-use Rattle.cisco_reader.specs.PortList.{ended, listed, listed_then, max_ports}
-use Rattle.cisco_reader.specs.Ports.{compared, is_negated, next_port, operator_named, or_none, port_part, ports_above, ports_below, range, range_of}
-use Rattle.cisco_reader.specs.Read.{After, ◌>>=◌, taken}
+use Rattle.cisco_reader.specs.Ports.{port_part}
+use Rattle.cisco_reader.specs.Protocols.{protocols_of}
+use Rattle.cisco_reader.specs.Read.{After, ◌>>=◌, known, taken}
+use Rattle.cisco_reader.specs.Services.{are_compared, service_of}
 use Rattle.cisco_reader.specs.Wildcard.{gaps, ip4_plain, under_mask}
 use Rattle.cisco_reader.specs.Joined as joined
-use Rattle.cisco_reader.specs.Joined.{AreAddresses, AreCompared, AreLog, AreNumbers, IsEntry, one}
-
--- a part was read off the front of some words
-record Reads {A : Type 0} (Is : List (List ℕ) → A → Type 0) (words : List (List ℕ)) (read : After A) : Type 0 where
-  part : List (List ℕ)
-  is : Is part read.value
-  joined : part ++ read.words ≡ words
-
--- it was made of these words, and these were left
-made : {A : Type 0} (Is : List (List ℕ) → A → Type 0) {read : After A} (part words : List (List ℕ)) (value : A) →
-    Is part value →
-    ◌≡◌ {A = Result (After A) LineKind} (Ok (record { value = value; words = words })) (Ok read) →
-    Reads Is (part ++ words) read
-made Is {read = read} part words value it is =
-    let e : record { value = value; words = words } ≡ read = cc in
-    record {
-      part = part;
-      is = subst (λ (r : After _). Is part r.value) e it;
-      joined = ap (λ (r : After _). part ++ r.words) (sym e);
-    }
+use Rattle.cisco_reader.specs.Joined.{AreAddresses, AreCarried, AreCompared, AreLog, AreServices, IsEntry}
+use Rattle.cisco_reader.proofs.PortWords.{Reads, made, ports_read}
+use Rattle.cisco_reader.proofs.ServiceWords.{service_same}
 
 -- ---- addresses
 
@@ -92,20 +80,41 @@ with_mask_reads groups text words read is = by (ip4_plain text) refl is
     by None plain is = absurd cc
     by (Some address) plain is = masked_reads groups text address words read plain is
 
--- those of a group
-grouped_reads : (groups : List ListedGroup) (word : List ℕ) (words : List (List ℕ)) (read : After Addresses) →
-    bytes_eq word (codes "object-group") ≡ true → grouped groups words ≡ Ok read →
-    Reads (AreAddresses groups) (word ∷ words) read
-grouped_reads groups word [] read named is = absurd cc
-grouped_reads groups word (name ∷ words) read named is = by (place_for groups (codes "network") name) refl is
+-- the name of a group was read off the front of words
+record ReadsName (groups : List ListedGroup) (kind : List ℕ) (words : List (List ℕ)) (read : After ℕ) : Type 0 where
+  name : List ℕ
+  is : place_for groups kind name ≡ Ok read.value
+  joined : name ∷ read.words ≡ words
+
+name_reads : (groups : List ListedGroup) (kind : List ℕ) (words : List (List ℕ)) (read : After ℕ) →
+    named_group groups kind words ≡ Ok read → ReadsName groups kind words read
+name_reads groups kind [] read is = absurd cc
+name_reads groups kind (name ∷ words) read is = by (place_for groups kind name) refl is
   where
-    by : (found : Result ℕ LineKind) → place_for groups (codes "network") name ≡ found →
-        (◌>>=◌ {B = After Addresses} found (λ place. Ok (record { value = Group place; words = words }))) ≡ Ok read →
-        Reads (AreAddresses groups) (word ∷ name ∷ words) read
-    by (Err kind) said is = absurd cc
+    by : (found : Result ℕ LineKind) → place_for groups kind name ≡ found →
+        (◌>>=◌ {B = After ℕ} found (λ place. Ok (record { value = place; words = words }))) ≡ Ok read →
+        ReadsName groups kind (name ∷ words) read
+    by (Err fault) said is = absurd cc
     by (Ok place) said is =
-        made (AreAddresses groups) (word ∷ name ∷ []) words (Group place)
-        (joined.Grouped word name place named said refl refl) is
+        let e : record { value = place; words = words } ≡ read = cc in
+        record {
+          name = name;
+          is = said ∙ ap (λ (r : After ℕ). Ok r.value) e;
+          joined = ap (λ (r : After ℕ). name ∷ r.words) (sym e);
+        }
+
+-- what is made of a group that is named after a word
+group_reads : {A : Type 0} (Is : List (List ℕ) → A → Type 0) (make : ℕ → A) (groups : List ListedGroup)
+    (kind word : List ℕ) (words : List (List ℕ)) (read : After A) →
+    ((name : List ℕ) (place : ℕ) → place_for groups kind name ≡ Ok place → Is (word ∷ name ∷ []) (make place)) →
+    (found : Result (After ℕ) LineKind) → named_group groups kind words ≡ found →
+    (◌>>=◌ {B = After A} found (λ it. Ok (record { value = make it.value; words = it.words }))) ≡ Ok read →
+    Reads Is (word ∷ words) read
+group_reads Is make groups kind word words read are (Err fault) said is = absurd cc
+group_reads Is make groups kind word words read are (Ok it) said is =
+    let named = name_reads groups kind words it said in
+    subst (λ ws. Reads Is (word ∷ ws) read) named.joined
+    (made Is (word ∷ named.name ∷ []) it.words (make it.value) (are named.name it.value named.is) is)
 
 -- what stands for addresses
 addresses_read : (groups : List ListedGroup) (words : List (List ℕ)) (read : After Addresses) →
@@ -127,7 +136,9 @@ addresses_read groups (word ∷ words) read is =
                 let second = sym (cond-false (bytes_eq word (codes "host")) _ _ other) ∙ first in
                 elim (cases_Bool (bytes_eq word (codes "object-group"))) [
                   | inl group ↦
-                      grouped_reads groups word words read group
+                      group_reads (AreAddresses groups) Group groups (codes "network") word words read
+                      (λ name place named. joined.Grouped word name place group named refl refl)
+                      (named_group groups (codes "network") words) refl
                       (sym (cond-true (bytes_eq word (codes "object-group")) _ _ group) ∙ second)
                   | inr none ↦
                       with_mask_reads groups word words read
@@ -135,200 +146,6 @@ addresses_read groups (word ∷ words) read is =
                 ]
           ]
     ]
-
--- ---- ports
-
--- some ports were read off the front of words, after others
-record ReadsPorts (ports : List Span) (words : List (List ℕ)) (read : After (List Span)) : Type 0 where
-  texts : List (List ℕ)
-  numbers : List ℕ
-  are : AreNumbers texts numbers
-  value : read.value ≡ ports ++ map one numbers
-  joined : texts ++ read.words ≡ words
-
--- no more
-ended_reads : (ports : List Span) (words : List (List ℕ)) (read : After (List Span)) → ended ports words ≡ Ok read →
-    ReadsPorts ports words read
-ended_reads ports words read is =
-    elim (cases_Bool (length ports == 0)) [
-      | inl none ↦ absurd (let e = sym (cond-true (length ports == 0) _ _ none) ∙ is in cc)
-      | inr some ↦
-          let e = sym (cond-false (length ports == 0) _ _ some) ∙ is in
-          let same : record { value = ports; words = words } ≡ read = cc in
-          record {
-            texts = [];
-            numbers = [];
-            are = record { numbers = refl };
-            value = sym (ap (λ (r : After (List Span)). r.value) same) ∙ sym (append-nil ports);
-            joined = sym (ap (λ (r : After (List Span)). r.words) same);
-          }
-    ]
-
--- one more, and those after it
-one_reads : (ports : List Span) (word : List ℕ) (words : List (List ℕ)) (read : After (List Span)) (found : Option ℕ) →
-    port_of word ≡ found →
-    ((more : List Span) → listed more words ≡ Ok read → ReadsPorts more words read) →
-    listed_then ports (word ∷ words) found (λ more. listed more words) ≡ Ok read →
-    ReadsPorts ports (word ∷ words) read
-one_reads ports word words read None said rest is = ended_reads ports (word ∷ words) read is
-one_reads ports word words read (Some number) said rest is =
-    elim (cases_Bool (nat_le max_ports (length ports))) [
-      | inl full ↦ absurd (let e = sym (cond-true (nat_le max_ports (length ports)) _ _ full) ∙ is in cc)
-      | inr room ↦
-          let next = rest (ports
-          ++ one number ∷ []) (sym (cond-false (nat_le max_ports (length ports)) _ _ room) ∙ is) in
-          record {
-            texts = word ∷ next.texts;
-            numbers = number ∷ next.numbers;
-            are = record { numbers = λ i. said i ∷ next.are.numbers i };
-            value = next.value ∙ append_assoc ports (one number ∷ []) (map one next.numbers);
-            joined = ap (λ ws. word ∷ ws) next.joined;
-          }
-    ]
-
--- ports up to the first word that is none
-listed_reads : (ports : List Span) (words : List (List ℕ)) (read : After (List Span)) → listed ports words ≡ Ok read →
-    ReadsPorts ports words read
-listed_reads ports [] read is = ended_reads ports [] read is
-listed_reads ports (word ∷ words) read is =
-    one_reads ports word words read (port_of word) refl (λ more said. listed_reads more words read said) is
-
--- one port was read off the front of words
-record ReadsPort (words : List (List ℕ)) (read : After ℕ) : Type 0 where
-  text : List ℕ
-  is : port_of text ≡ Some read.value
-  joined : text ∷ read.words ≡ words
-
--- the port that comes next
-next_reads : (words : List (List ℕ)) (read : After ℕ) → next_port words ≡ Ok read → ReadsPort words read
-next_reads [] read is = absurd cc
-next_reads (word ∷ words) read is = by (port_of word) refl is
-  where
-    by : (found : Option ℕ) → port_of word ≡ found →
-        taken BadPort found
-        (λ number. record { value = number; words = words }) ≡ Ok read → ReadsPort (word ∷ words) read
-    by None said is = absurd cc
-    by (Some number) said is =
-        let e : record { value = number; words = words } ≡ read = cc in
-        record {
-          text = word;
-          is = said ∙ ap (λ (r : After ℕ). Some r.value) e;
-          joined = ap (λ (r : After ℕ). word ∷ r.words) (sym e);
-        }
-
--- what a comparison and its ports stand for
-abbrev part_of : Bool → After (List Span) → After (Option PortPart)
-part_of negated read = record { value = Some (record { negated = negated; ports = read.value }); words = read.words }
-
--- one port, and what a comparison makes of it
-single_reads : (word : List ℕ) (make : ℕ → List Span) (words : List (List ℕ)) (read : After (List Span)) →
-    ((text : List ℕ) (port : ℕ) → port_of text ≡ Some port →
-    AreCompared (word ∷ text ∷ []) (Some (record { negated = false; ports = make port }))) →
-    (next_port words >>= λ port. Ok (record { value = make port.value; words = port.words })) ≡ Ok read →
-    Reads AreCompared (word ∷ words) (part_of false read)
-single_reads word make words read are is = by (next_port words) refl is
-  where
-    by : (x : Result (After ℕ) LineKind) → next_port words ≡ x →
-        (x >>= λ port. Ok (record { value = make port.value; words = port.words })) ≡ Ok read →
-        Reads AreCompared (word ∷ words) (part_of false read)
-    by (Err kind) said is = absurd cc
-    by (Ok port) said is =
-        let next = next_reads words port said in
-        let e : record { value = make port.value; words = port.words } ≡ read = cc in
-        record {
-          part = word ∷ next.text ∷ [];
-          is = subst (λ (r : After (List Span)). AreCompared (word ∷ next.text ∷ []) (part_of false r).value) e
-              (are next.text port.value next.is);
-          joined = ap (λ (r : After (List Span)). word ∷ next.text ∷ r.words) (sym e) ∙ ap
-              (λ ws. word ∷ ws) next.joined;
-        }
-
--- a range and its two ports
-range_reads : (word : List ℕ) (words : List (List ℕ)) (read : After (List Span)) →
-    operator_named word ≡ Some operator.Range → range words ≡ Ok read →
-    Reads AreCompared (word ∷ words) (part_of false read)
-range_reads word words read named is = by (next_port words) refl is
-  where
-    last : (low high : After ℕ) → next_port words ≡ Ok low → next_port low.words ≡ Ok high →
-        range_of low.value high ≡ Ok read → Reads AreCompared (word ∷ words) (part_of false read)
-    last low high first second is =
-        let one_text = next_reads words low first in
-        let other_text = next_reads low.words high second in
-        elim (cases_Bool (nat_lt high.value low.value)) [
-          | inl turned ↦ absurd (let e = sym (cond-true (nat_lt high.value low.value) _ _ turned) ∙ is in cc)
-          | inr right ↦
-              let e0 = sym (cond-false (nat_lt high.value low.value) _ _ right) ∙ is in
-              let e : record { value = record { low = low.value; high = high.value } ∷ []; words = high.words }
-              ≡ read = cc in
-              record {
-                part = word ∷ one_text.text ∷ other_text.text ∷ [];
-                is = subst
-                    (λ (r : After (List Span)).
-                    AreCompared (word ∷ one_text.text ∷ other_text.text ∷ []) (part_of false r).value) e
-                    (joined.Range word one_text.text other_text.text low.value high.value named one_text.is
-                    other_text.is refl refl);
-                joined = ap (λ (r : After (List Span)). word ∷ one_text.text ∷ other_text.text ∷ r.words) (sym e)
-                    ∙ ap (λ ws. word ∷ one_text.text ∷ ws) other_text.joined
-                    ∙ ap (λ ws. word ∷ ws) one_text.joined;
-              }
-        ]
-
-    with_high : (low : After ℕ) → next_port words ≡ Ok low → (y : Result (After ℕ) LineKind) → next_port low.words ≡ y →
-        (y >>= range_of low.value) ≡ Ok read → Reads AreCompared (word ∷ words) (part_of false read)
-    with_high low first (Err kind) second is = absurd cc
-    with_high low first (Ok high) second is = last low high first second is
-
-    by : (x : Result (After ℕ) LineKind) → next_port words ≡ x →
-        (x >>= λ low. (next_port low.words >>= range_of low.value)) ≡ Ok read →
-        Reads AreCompared (word ∷ words) (part_of false read)
-    by (Err kind) said is = absurd cc
-    by (Ok low) said is = with_high low said (next_port low.words) refl is
-
--- a comparison and its ports
-compared_reads : (word : List ℕ) (it : Operator) (words : List (List ℕ)) (read : After (List Span)) →
-    operator_named word ≡ Some it → compared it words ≡ Ok read →
-    Reads AreCompared (word ∷ words)
-    (part_of (is_negated it) read)
-compared_reads word operator.Equal words read named is =
-    let read_ports = listed_reads [] words read is in
-    record {
-      part = word ∷ read_ports.texts;
-      is = joined.Equal word read_ports.texts read_ports.numbers named read_ports.are refl
-          (ap (λ ports. Some (record { negated = false; ports = ports })) read_ports.value);
-      joined = ap (λ ws. word ∷ ws) read_ports.joined;
-    }
-compared_reads word operator.NotEqual words read named is =
-    let read_ports = listed_reads [] words read is in
-    record {
-      part = word ∷ read_ports.texts;
-      is = joined.NotEqual word read_ports.texts read_ports.numbers named read_ports.are refl
-          (ap (λ ports. Some (record { negated = true; ports = ports })) read_ports.value);
-      joined = ap (λ ws. word ∷ ws) read_ports.joined;
-    }
-compared_reads word operator.Greater words read named is =
-    single_reads word ports_above words read (λ text port said. joined.Above word text port named said refl refl) is
-compared_reads word operator.Less words read named is =
-    single_reads word ports_below words read (λ text port said. joined.Below word text port named said refl refl) is
-compared_reads word operator.Range words read named is = range_reads word words read named is
-
--- ports that may stand after addresses
-ports_read : (words : List (List ℕ)) (read : After (Option PortPart)) → port_part words ≡ Ok read →
-    Reads AreCompared words read
-ports_read [] read is = made AreCompared [] [] None (joined.NoPorts refl refl) is
-ports_read (word ∷ words) read is = by (operator_named word) refl is
-  where
-    with_it : (it : Operator) → operator_named word ≡ Some it → (x : Result (After (List Span)) LineKind) →
-        compared it words ≡ x → (x >>= λ found. Ok (part_of (is_negated it) found)) ≡ Ok read →
-        Reads AreCompared (word ∷ words) read
-    with_it it named (Err kind) said is = absurd cc
-    with_it it named (Ok found) said is =
-        let e : part_of (is_negated it) found ≡ read = cc in
-        subst (Reads AreCompared (word ∷ words)) e (compared_reads word it words found named said)
-
-    by : (found : Option Operator) → operator_named word ≡ found → or_none (word ∷ words) words found ≡ Ok read →
-        Reads AreCompared (word ∷ words) read
-    by None named is = made AreCompared [] (word ∷ words) None (joined.NoPorts refl refl) is
-    by (Some it) named is = with_it it named (compared it words) refl is
 
 -- ---- sides
 
@@ -391,98 +208,163 @@ log_reads span (word ∷ words) none =
 
 -- ---- the entry
 
--- an entry whose ports are checked is the same
-checked_same : (entry found : Entry) → checked entry ≡ Ok found → entry ≡ found
-checked_same entry found is =
-    elim (cases_Bool (compares_ports entry && not (has_ports entry.protocol))) [
-      | inl bad ↦
-          let e = sym (cond-true (compares_ports entry && not (has_ports entry.protocol)) _ _ bad) ∙ is in absurd cc
-      | inr good ↦ let e = sym (cond-false (compares_ports entry && not (has_ports entry.protocol)) _ _ good) ∙ is in cc
+-- what an entry begins with was read off the front of its words
+carried_read : (groups : List ListedGroup) (words : List (List ℕ)) (read : After Carried) →
+    carried_of groups words ≡ Ok read → Reads (AreCarried groups) words read
+carried_read groups [] read is = absurd cc
+carried_read groups (word ∷ words) read is =
+    elim (cases_Bool (bytes_eq word (codes "object-group"))) [
+      | inl group ↦
+          group_reads (AreCarried groups) carried.Group groups (codes "service") word words read
+          (λ name place named. joined.ServiceGroup word name place group named refl refl)
+          (named_group groups (codes "service") words) refl
+          (sym (cond-true (bytes_eq word (codes "object-group")) _ _ group) ∙ is)
+      | inr none ↦
+          by (protocols_of word) refl (sym (cond-false (bytes_eq word (codes "object-group")) _ _ none) ∙ is)
     ]
+  where
+    by : (found : Result Span LineKind) → protocols_of word ≡ found →
+        (◌>>=◌ {B = After Carried} found (λ span. Ok (record { value = carried.Protocol span; words = words })))
+        ≡ Ok read → Reads (AreCarried groups) (word ∷ words) read
+    by (Err kind) said is = absurd cc
+    by (Ok span) said is =
+        made (AreCarried groups) (word ∷ []) words (carried.Protocol span)
+        (joined.Protocol word span said refl refl) is
+
+-- no ports are compared
+none_compared : (source destination : Option PortPart) → are_compared source destination ≡ false →
+    (source ≡ None) × (destination ≡ None)
+none_compared None None none = (refl, refl)
+none_compared None (Some part) none = absurd cc
+none_compared (Some part) destination none = absurd cc
+
+-- the services of an entry
+services_are : (begins : Carried) (source destination : Option PortPart) (it : Services) →
+    services_with begins source destination ≡ Ok it → AreServices begins source destination it
+services_are (carried.Protocol span) source destination it is =
+    by (service_of (Between span) source destination) refl is
+  where
+    by : (found : Result Service LineKind) → service_of (Between span) source destination ≡ found →
+        (found >>= λ service. Ok (services.Own service)) ≡ Ok it →
+        AreServices (carried.Protocol span) source destination it
+    by (Err kind) said is = absurd cc
+    by (Ok service) said is =
+        let e : it ≡ services.Own service = cc in
+        joined.Own span refl (e ∙ ap services.Own (service_same (Between span) source destination service said))
+services_are (carried.Group place) source destination it is =
+    elim (cases_Bool (are_compared source destination)) [
+      | inl some ↦ absurd (let e = sym (cond-true (are_compared source destination) _ _ some) ∙ is in cc)
+      | inr none ↦
+          let e = sym (cond-false (are_compared source destination) _ _ none) ∙ is in
+          let same : it ≡ services.Group place = cc in
+          let are = none_compared source destination none in
+          joined.OfGroup place refl are.0 are.1 same
+    ]
+
+-- an entry was made of what it begins with and of its sides
+record IsMadeOf (verdict : Verdict) (begins : Carried) (source destination : Side) (entry : Entry) : Type 0 where
+  permits : entry.verdict ≡ verdict
+  serves : AreServices begins source.ports destination.ports entry.services
+  near : entry.source ≡ source.addresses
+  far : entry.destination ≡ destination.addresses
+
+entry_made : (verdict : Verdict) (begins : Carried) (source destination : Side) (entry : Entry) →
+    entry_with verdict begins source destination ≡ Ok entry → IsMadeOf verdict begins source destination entry
+entry_made verdict begins source destination entry is =
+    by (services_with begins source.ports destination.ports) refl is
+  where
+    by : (found : Result Services LineKind) → services_with begins source.ports destination.ports ≡ found →
+        (found >>= λ it. Ok (record {
+          verdict = verdict;
+          services = it;
+          source = source.addresses;
+          destination = destination.addresses;
+        })) ≡ Ok entry → IsMadeOf verdict begins source destination entry
+    by (Err kind) said is = absurd cc
+    by (Ok it) said is =
+        let e : record {
+          verdict = verdict;
+          services = it;
+          source = source.addresses;
+          destination = destination.addresses;
+        } ≡ entry = cc in
+        record {
+          permits = sym (ap (λ (r : Entry). r.verdict) e);
+          serves = subst (λ (r : Entry). AreServices begins source.ports destination.ports r.services) e
+              (services_are begins source.ports destination.ports it said);
+          near = sym (ap (λ (r : Entry). r.source) e);
+          far = sym (ap (λ (r : Entry). r.destination) e);
+        }
 
 -- the words of an entry that is read are such parts
 pub read_words_are_parts : joined.ReadWordsAreParts
-read_words_are_parts groups verdict words entry is = start words is
+read_words_are_parts groups verdict words entry is = start (carried_of groups words) refl is
   where
-    -- both sides and the log were read
-    whole : (word : List ℕ) (rest : List (List ℕ)) (span : Span) (source destination : After Side) →
-        protocols_of word ≡ Ok span → side_of groups rest ≡ Ok source → side_of groups source.words ≡ Ok destination →
-        options_fault span destination.words ≡ None →
-        checked (record {
-          verdict = verdict;
-          protocol = span;
-          source = source.value;
-          destination = destination.value;
-        }) ≡ Ok entry → IsEntry groups verdict (word ∷ rest) entry
-    whole word rest span source destination named first second none is =
-        let near = side_reads groups rest source first in
+    -- all parts were read
+    whole : (begins : After Carried) (source destination : After Side) →
+        carried_of groups words ≡ Ok begins → side_of groups begins.words ≡ Ok source →
+        side_of groups source.words ≡ Ok destination →
+        options_fault (protocols_in begins.value) destination.words ≡ None →
+        entry_with verdict begins.value source.value destination.value ≡ Ok entry → IsEntry groups verdict words entry
+    whole begins source destination opening first second none is =
+        let start_ = carried_read groups words begins opening in
+        let near = side_reads groups begins.words source first in
         let far = side_reads groups source.words destination second in
-        let e = checked_same (record {
-          verdict = verdict;
-          protocol = span;
-          source = source.value;
-          destination = destination.value;
-        }) entry is in
-        subst (IsEntry groups verdict (word ∷ rest)) e (record {
-          protocol = word;
+        let it = entry_made verdict begins.value source.value destination.value entry is in
+        record {
+          first = start_.part;
           source = near.addresses;
           source_ports = near.ports;
           destination = far.addresses;
           destination_ports = far.ports;
           log = destination.words;
-          permits = refl;
-          protocols = named;
-          sources = near.are_addresses;
+          begins = begins.value;
+          near = source.value.ports;
+          far = destination.value.ports;
+          permits = it.permits;
+          carries = start_.is;
+          serves = it.serves;
+          sources = subst (AreAddresses groups near.addresses) (sym it.near) near.are_addresses;
           compared_sources = near.are_ports;
-          destinations = far.are_addresses;
+          destinations = subst (AreAddresses groups far.addresses) (sym it.far) far.are_addresses;
           compared_destinations = far.are_ports;
-          logs = log_reads span destination.words none;
-          joined = ap (λ ws. word ∷ (near.addresses ++ (near.ports ++ ws))) far.joined
-              ∙ ap (λ ws. word ∷ ws) near.joined;
-        })
+          logs = log_reads (protocols_in begins.value) destination.words none;
+          joined = ap (λ ws. start_.part ++ (near.addresses ++ (near.ports ++ ws))) far.joined
+              ∙ ap (λ ws. start_.part ++ ws) near.joined
+              ∙ start_.joined;
+        }
 
-    logged : (word : List ℕ) (rest : List (List ℕ)) (span : Span) (source destination : After Side)
-        (fault : Option LineKind) →
-        protocols_of word ≡ Ok span → side_of groups rest ≡ Ok source → side_of groups source.words ≡ Ok destination →
-        options_fault span destination.words ≡ fault →
-        unless fault (checked (record {
-          verdict = verdict;
-          protocol = span;
-          source = source.value;
-          destination = destination.value;
-        })) ≡ Ok entry → IsEntry groups verdict (word ∷ rest) entry
-    logged word rest span source destination None named first second none is =
-        whole word rest span source destination named first second none is
-    logged word rest span source destination (Some kind) named first second some is = absurd cc
+    logged : (begins : After Carried) (source destination : After Side) (fault : Option LineKind) →
+        carried_of groups words ≡ Ok begins → side_of groups begins.words ≡ Ok source →
+        side_of groups source.words ≡ Ok destination →
+        options_fault (protocols_in begins.value) destination.words ≡ fault →
+        unless fault (entry_with verdict begins.value source.value destination.value) ≡ Ok entry →
+        IsEntry groups verdict words entry
+    logged begins source destination None opening first second none is =
+        whole begins source destination opening first second none is
+    logged begins source destination (Some kind) opening first second some is = absurd cc
 
-    second_side : (word : List ℕ) (rest : List (List ℕ)) (span : Span) (source : After Side)
-        (y : Result (After Side) LineKind) →
-        protocols_of word ≡ Ok span → side_of groups rest ≡ Ok source → side_of groups source.words ≡ y →
-        (y >>= λ destination. unless (options_fault span destination.words) (checked (record {
-          verdict = verdict;
-          protocol = span;
-          source = source.value;
-          destination = destination.value;
-        }))) ≡ Ok entry → IsEntry groups verdict (word ∷ rest) entry
-    second_side word rest span source (Err kind) named first second is = absurd cc
-    second_side word rest span source (Ok destination) named first second is =
-        logged word rest span source destination (options_fault span destination.words) named first second refl is
+    second_side : (begins : After Carried) (source : After Side) (y : Result (After Side) LineKind) →
+        carried_of groups words ≡ Ok begins → side_of groups begins.words ≡ Ok source →
+        side_of groups source.words ≡ y →
+        (y >>= λ destination. unless (options_fault (protocols_in begins.value) destination.words)
+        (entry_with verdict begins.value source.value destination.value)) ≡ Ok entry →
+        IsEntry groups verdict words entry
+    second_side begins source (Err kind) opening first second is = absurd cc
+    second_side begins source (Ok destination) opening first second is =
+        logged begins source destination (options_fault (protocols_in begins.value) destination.words) opening first
+        second refl is
 
-    first_side : (word : List ℕ) (rest : List (List ℕ)) (span : Span) (y : Result (After Side) LineKind) →
-        protocols_of word ≡ Ok span → side_of groups rest ≡ y →
-        (y >>= λ source. with_destination groups verdict span source.value source.words)
-        ≡ Ok entry → IsEntry groups verdict (word ∷ rest) entry
-    first_side word rest span (Err kind) named first is = absurd cc
-    first_side word rest span (Ok source) named first is =
-        second_side word rest span source (side_of groups source.words) named first refl is
+    first_side : (begins : After Carried) (y : Result (After Side) LineKind) →
+        carried_of groups words ≡ Ok begins → side_of groups begins.words ≡ y →
+        (y >>= λ source. with_destination groups verdict begins.value source.value source.words) ≡ Ok entry →
+        IsEntry groups verdict words entry
+    first_side begins (Err kind) opening first is = absurd cc
+    first_side begins (Ok source) opening first is =
+        second_side begins source (side_of groups source.words) opening first refl is
 
-    named_one : (word : List ℕ) (rest : List (List ℕ)) (y : Result Span LineKind) → protocols_of word ≡ y →
-        (◌>>=◌ {A = After Span} (y >>= λ span. Ok (record { value = span; words = rest }))
-        (λ found. sides groups verdict found.value found.words)) ≡ Ok entry →
-        IsEntry groups verdict (word ∷ rest) entry
-    named_one word rest (Err kind) named is = absurd cc
-    named_one word rest (Ok span) named is = first_side word rest span (side_of groups rest) named refl is
-
-    start : (ws : List (List ℕ)) → entry_of groups verdict ws ≡ Ok entry → IsEntry groups verdict ws entry
-    start [] is = absurd cc
-    start (word ∷ rest) is = named_one word rest (protocols_of word) refl is
+    start : (y : Result (After Carried) LineKind) → carried_of groups words ≡ y →
+        (y >>= λ begins. sides groups verdict begins.value begins.words) ≡ Ok entry →
+        IsEntry groups verdict words entry
+    start (Err kind) opening is = absurd cc
+    start (Ok begins) opening is = first_side begins (side_of groups begins.words) opening refl is

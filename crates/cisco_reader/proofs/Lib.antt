@@ -1,5 +1,7 @@
-pub mod JoinedWords
+pub mod PortWords
 pub mod MemberWords
+pub mod ServiceWords
+pub mod JoinedWords
 pub mod ListLines
 pub mod Steps
 pub mod Opening

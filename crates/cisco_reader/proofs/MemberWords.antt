@@ -8,20 +8,21 @@ use Rattle.text_scan.specs.Parts.{slash, cut_at}
 use Rattle.list_chains.specs.declared.span.Span.{Span}
 use Rattle.cisco_reader.specs.declared.fault.LineKind.{LineKind}
 use Rattle.cisco_reader.specs.declared.fault.LineKind.TheVariants.{BadAddress, BadNetworkMask}
-use Rattle.cisco_reader.specs.Entry.{all_ones, known}
-use Rattle.cisco_reader.specs.Members.{alone, host_member, is_network_mask, length_or_mask, masked_span, network_of, one_span, plain_member, prefix_span, prefixed, range_of, span_to}
+use Rattle.cisco_reader.specs.Entry.{all_ones}
+use Rattle.cisco_reader.specs.Members.{host_member, is_network_mask, length_or_mask, masked_span, network_of, one_span, plain_member, prefix_span, prefixed, range_of, span_to}
 use Rattle.cisco_reader.specs.Names.{number_of}
-use Rattle.cisco_reader.specs.Read.{◌>>=◌}
+use Rattle.cisco_reader.specs.Read.{◌>>=◌, alone, known}
 use Rattle.cisco_reader.specs.Wildcard.{ip4_plain}
 use Rattle.cisco_reader.specs.Joined as joined
 use Rattle.cisco_reader.specs.Joined.{IsNetwork}
 
--- addresses after which nothing stands are these
-alone_same : (words : List (List ℕ)) (span it : Span) → alone words span ≡ Ok it → (words ≡ []) × (it ≡ span)
-alone_same [] span it is = (refl, let e : it ≡ span = cc in e)
-alone_same (word ∷ words) span it is = absurd cc
+-- what was read, after which nothing stands, is this
+pub alone_same : {A : Type 0} (words : List (List ℕ)) (value it : A) → alone words value ≡ Ok it →
+    (words ≡ []) × (it ≡ value)
+alone_same [] value it is = (refl, let e : it ≡ value = cc in e)
+alone_same (word ∷ words) value it is = absurd cc
 
--- and so are those that were found before
+-- and so are addresses that were found before
 then_alone : (found : Result Span LineKind) (words : List (List ℕ)) (it : Span) → (found >>= alone words) ≡ Ok it →
     (words ≡ []) × (found ≡ Ok it)
 then_alone (Err kind) words it is = absurd cc

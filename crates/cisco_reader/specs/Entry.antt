@@ -1,24 +1,31 @@
 -- An entry of an extended list after `permit` or `deny` (Cisco IOS Security Command Reference,
--- "permit (IP)"): a protocol, the source with its ports, the destination with its ports, and `log`
--- or `log-input` with at most one word.
-use Rattle.std.specs.Prelude.{ℕ, ◌==◌, Bool, not, ◌&&◌, ◌||◌, is_some, nat_lt, if◌then◌else◌, codes}
+-- "permit (IP)"): a protocol or a group of services, the source with its ports, the destination
+-- with its ports, and `log` or `log-input` with at most one word. Beside a group no ports stand.
+use Rattle.std.specs.Prelude.{ℕ, Bool, ◌||◌, nat_lt, if◌then◌else◌, codes}
 use Rattle.std.specs.Prelude.{List, [], ◌∷◌, Option, Some, None, Result, Ok, Err}
 use Rattle.std.specs.Str.{bytes_eq}
 use Rattle.text_scan.specs.Parts.{words_of}
 use Rattle.list_chains.specs.declared.span.Span.{Span}
 use Rattle.cisco_reader.specs.declared.entry.Addresses.{Addresses}
 use Rattle.cisco_reader.specs.declared.entry.Addresses.TheVariants as addresses
+use Rattle.cisco_reader.specs.declared.entry.Carried.{Carried}
+use Rattle.cisco_reader.specs.declared.entry.Carried.TheVariants as carried
+use Rattle.cisco_reader.specs.declared.entry.Services.{Services}
+use Rattle.cisco_reader.specs.declared.entry.Services.TheVariants as services
 use Rattle.cisco_reader.specs.declared.entry.Verdict.{Verdict}
 use Rattle.cisco_reader.specs.declared.entry.Side.{Side}
 use Rattle.cisco_reader.specs.declared.entry.Entry.{Entry}
+use Rattle.cisco_reader.specs.declared.ports.PortPart.{PortPart}
+use Rattle.cisco_reader.specs.declared.protocols.Protocols.TheVariants.{Between}
 use Rattle.cisco_reader.specs.declared.fault.LineKind.{LineKind}
-use Rattle.cisco_reader.specs.declared.fault.LineKind.TheVariants.{BadAddress, BadMask, BadProtocol, Compares, Group}
-use Rattle.cisco_reader.specs.declared.fault.LineKind.TheVariants.{IcmpType, MissingWord, NeedsProtocol}
-use Rattle.cisco_reader.specs.declared.fault.LineKind.TheVariants.{UnknownWord, ZeroProtocol}
+use Rattle.cisco_reader.specs.declared.fault.LineKind.TheVariants.{BadAddress, BadMask, Compares, Group}
+use Rattle.cisco_reader.specs.declared.fault.LineKind.TheVariants.{IcmpType, MissingWord, UnknownWord}
 use Rattle.cisco_reader.specs.Groups.{ListedGroup, place_for}
-use Rattle.cisco_reader.specs.Names.{is_among, is_compared, max_protocol, protocol_of}
+use Rattle.cisco_reader.specs.Names.{is_among, is_compared}
 use Rattle.cisco_reader.specs.Ports.{port_part}
-use Rattle.cisco_reader.specs.Read.{After, ◌>>=◌, taken}
+use Rattle.cisco_reader.specs.Protocols.{any_protocol, has_types, protocols_of}
+use Rattle.cisco_reader.specs.Read.{After, ◌>>=◌, known, taken}
+use Rattle.cisco_reader.specs.Services.{are_compared, service_of}
 use Rattle.cisco_reader.specs.Wildcard.{gaps, ip4_plain, under_mask}
 
 -- ---- addresses
@@ -43,11 +50,6 @@ under address words mask =
     if nat_lt max_gaps (gaps 32 mask) then Err BadMask
     else Ok (record { value = addresses.Under (under_mask address mask); words = words })
 
--- a number that isn't there is a fault, and one that is goes into what follows
-abbrev pub known : {A : Type 0} → LineKind → Option ℕ → (ℕ → Result A LineKind) → Result A LineKind
-known kind None following = Err kind
-known kind (Some number) following = following number
-
 -- a wildcard mask after its address
 abbrev pub masked : ℕ → List (List ℕ) → Result (After Addresses) LineKind
 masked address [] = Err MissingWord
@@ -57,11 +59,16 @@ masked address (word ∷ words) = known BadMask (ip4_plain word) (under address 
 abbrev pub with_mask : List ℕ → List (List ℕ) → Result (After Addresses) LineKind
 with_mask word words = known BadAddress (ip4_plain word) (λ address. masked address words)
 
--- those of a group of networks
+-- the group of a kind that is named
+abbrev pub named_group : List ListedGroup → List ℕ → List (List ℕ) → Result (After ℕ) LineKind
+named_group groups kind [] = Err MissingWord
+named_group groups kind (name ∷ words) = place_for groups kind name >>= λ place.
+    Ok (record { value = place; words = words })
+
+-- the addresses of a group of networks
 abbrev pub grouped : List ListedGroup → List (List ℕ) → Result (After Addresses) LineKind
-grouped groups [] = Err MissingWord
-grouped groups (name ∷ words) = place_for groups (codes "network") name >>= λ place.
-    Ok (record { value = addresses.Group place; words = words })
+grouped groups words = named_group groups (codes "network") words >>= λ found.
+    Ok (record { value = addresses.Group found.value; words = found.words })
 
 -- what stands for addresses: all of them, one, those of a group, or those under a mask
 abbrev pub addresses_of : List ListedGroup → List (List ℕ) → Result (After Addresses) LineKind
@@ -86,38 +93,23 @@ side_of groups words = addresses_of groups words >>= λ found. (port_part found.
 
 -- ---- protocols
 
--- all protocols
-abbrev pub any_protocol : Span
-any_protocol = record { low = 0; high = max_protocol }
+-- the services of a group of them
+abbrev pub group_carried : List ListedGroup → List (List ℕ) → Result (After Carried) LineKind
+group_carried groups words = named_group groups (codes "service") words >>= λ found.
+    Ok (record { value = carried.Group found.value; words = found.words })
 
--- a protocol by its number
-abbrev pub one_protocol : ℕ → Result Span LineKind
-one_protocol number =
-    if number == 0 then Err ZeroProtocol else Ok (record { low = number; high = number })
+-- what stands for protocols: those of a word, or a group of services
+abbrev pub carried_of : List ListedGroup → List (List ℕ) → Result (After Carried) LineKind
+carried_of groups [] = Err MissingWord
+carried_of groups (word ∷ words) =
+    if bytes_eq word (codes "object-group") then group_carried groups words
+    else (protocols_of word >>= λ span.
+    Ok (record { value = carried.Protocol span; words = words }))
 
--- the protocols that a word stands for
-abbrev pub protocols_of : List ℕ → Result Span LineKind
-protocols_of word =
-    if bytes_eq word (codes "ip") then Ok any_protocol
-    else (if bytes_eq word (codes "object-group") then Err Group
-    else known BadProtocol (protocol_of word) one_protocol)
-
--- and those of the first of some words
-abbrev pub protocols : List (List ℕ) → Result (After Span) LineKind
-protocols [] = Err MissingWord
-protocols (word ∷ words) = protocols_of word >>= λ span. Ok (record { value = span; words = words })
-
--- the entry is about one protocol of this number alone
-abbrev pub is_one : ℕ → Span → Bool
-is_one number span = span.low == number && span.high == number
-
--- the protocol has types of messages: ICMP of IPv4 or of IPv6
-abbrev pub has_types : Span → Bool
-has_types span = is_one 1 span || is_one 58 span
-
--- the protocol has ports that keys have: TCP, UDP or SCTP
-abbrev pub has_ports : Span → Bool
-has_ports span = is_one 6 span || (is_one 17 span || is_one 132 span)
+-- the protocols that options after the addresses may be about: of a group all of them
+abbrev pub protocols_in : Carried → Span
+protocols_in (carried.Protocol span) = span
+protocols_in (carried.Group place) = any_protocol
 
 -- ---- options
 
@@ -152,14 +144,22 @@ options_fault span (word ∷ words) =
 
 -- ---- the entry
 
--- ports are compared on a side
-abbrev pub compares_ports : Entry → Bool
-compares_ports entry = is_some entry.source.ports || is_some entry.destination.ports
+-- the service of protocols with the ports of both sides, or the group of services without any
+abbrev pub services_with : Carried → Option PortPart → Option PortPart → Result Services LineKind
+services_with (carried.Protocol span) source destination =
+    service_of (Between span) source destination >>= λ it. Ok (services.Own it)
+services_with (carried.Group place) source destination =
+    if are_compared source destination then Err Group else Ok (services.Group place)
 
--- ports need a protocol that has some
-abbrev pub checked : Entry → Result Entry LineKind
-checked entry =
-    if compares_ports entry && not (has_ports entry.protocol) then Err NeedsProtocol else Ok entry
+-- an entry of a verdict by its parts
+abbrev pub entry_with : Verdict → Carried → Side → Side → Result Entry LineKind
+entry_with verdict it source destination =
+    services_with it source.ports destination.ports >>= λ found. Ok (record {
+      verdict = verdict;
+      services = found;
+      source = source.addresses;
+      destination = destination.addresses;
+    })
 
 -- what was read, if there is no fault
 abbrev pub unless : {A : Type 0} → Option LineKind → Result A LineKind → Result A LineKind
@@ -167,22 +167,18 @@ unless None read = read
 unless (Some kind) read = Err kind
 
 -- the destination, and what stands after it
-abbrev pub with_destination : List ListedGroup → Verdict → Span → Side → List (List ℕ)
+abbrev pub with_destination : List ListedGroup → Verdict → Carried → Side → List (List ℕ)
     → Result Entry LineKind
-with_destination groups verdict span source words = side_of groups words >>= λ destination.
-    unless (options_fault span destination.words) (checked (record {
-      verdict = verdict;
-      protocol = span;
-      source = source;
-      destination = destination.value;
-    }))
+with_destination groups verdict it source words = side_of groups words >>= λ destination.
+    unless (options_fault (protocols_in it) destination.words)
+    (entry_with verdict it source destination.value)
 
 -- both sides, and what stands after them
-abbrev pub sides : List ListedGroup → Verdict → Span → List (List ℕ) → Result Entry LineKind
-sides groups verdict span words = side_of groups words >>= λ source.
-    with_destination groups verdict span source.value source.words
+abbrev pub sides : List ListedGroup → Verdict → Carried → List (List ℕ) → Result Entry LineKind
+sides groups verdict it words = side_of groups words >>= λ source.
+    with_destination groups verdict it source.value source.words
 
 -- an entry after its verdict
 abbrev pub entry_of : List ListedGroup → Verdict → List (List ℕ) → Result Entry LineKind
 entry_of groups verdict words =
-    protocols words >>= λ found. sides groups verdict found.value found.words
+    carried_of groups words >>= λ found. sides groups verdict found.value found.words

@@ -1,17 +1,22 @@
--- Examples of groups, each checked by evaluation: what groups of networks hold, and the faults of
--- others.
-use Rattle.std.specs.Prelude.{◌≡◌, ℕ, ◌++◌, List, [], ◌∷◌, codes, Result, Ok, Err, refl}
+-- Examples of groups, each checked by evaluation: what groups of networks and of services hold, and
+-- the faults of others.
+use Rattle.std.specs.Prelude.{◌≡◌, ℕ, ◌++◌, List, [], ◌∷◌, codes, true, false, Option, Some, None, Result, Ok, Err, refl}
 use Rattle.std.specs.Fmt.{digits}
 use Rattle.list_chains.specs.declared.span.Span.{Span}
 use Rattle.cisco_reader.specs.declared.entry.Addresses.TheVariants.{Group}
+use Rattle.cisco_reader.specs.declared.entry.Services.TheVariants as of
+use Rattle.cisco_reader.specs.declared.ports.PortPart.{PortPart}
+use Rattle.cisco_reader.specs.declared.protocols.Protocols.{Protocols}
+use Rattle.cisco_reader.specs.declared.protocols.Protocols.TheVariants.{Between, TcpUdp}
+use Rattle.cisco_reader.specs.declared.services.Service.{Service}
 use Rattle.cisco_reader.specs.declared.fault.LineFault.{LineFault}
 use Rattle.cisco_reader.specs.declared.fault.LineKind.{LineKind}
 use Rattle.cisco_reader.specs.declared.fault.LineKind.TheVariants as kind
 use Rattle.cisco_reader.specs.Groups.{group_kinds, groups_of}
 use Rattle.cisco_reader.specs.Heads.{begins_part, is_end, is_entry, is_ip, is_named, named_words, part_words}
-use Rattle.cisco_reader.specs.Held.{address_spans, opened_times}
+use Rattle.cisco_reader.specs.Held.{address_spans, opened_times, services_of}
 use Rattle.cisco_reader.specs.Lines.{with_lines}
-use Rattle.cisco_reader.specs.Names.{is_among}
+use Rattle.cisco_reader.specs.Names.{is_among, number_named, port_table, protocol_table}
 use Rattle.cisco_reader.specs.Read.{◌>>=◌}
 
 -- the numbers from one to another
@@ -106,3 +111,83 @@ of_two_kinds : first_holds (codes "object-group network A\nobject-group service 
 unfolding with_lines digits is_among is_entry is_end is_named named_words begins_part part_words
     is_ip group_kinds opened_times
 of_two_kinds = refl
+
+-- ---- services
+
+-- what the first group of a file serves, where line 9 names it
+abbrev first_serves : List ℕ → Result (List Service) LineFault
+first_serves text = groups_of text >>= λ groups. services_of groups 9 (of.Group 0)
+
+-- protocols, with ports of the source and of the destination
+abbrev service : Protocols → Option PortPart → Option PortPart → Service
+service protocols source destination =
+    record { protocols = protocols; source = source; destination = destination }
+
+-- ports, and all ports but one
+abbrev ports : List Span → Option PortPart
+ports spans = Some (record { negated = false; ports = spans })
+
+-- all ports but some
+abbrev but : List Span → Option PortPart
+but spans = Some (record { negated = true; ports = spans })
+
+-- a fault of a line
+abbrev unserved : ℕ → LineKind → Result (List Service) LineFault
+unserved line kind = Err (record { line = line; kind = kind })
+
+-- a port alone or after a comparison, those of the source after `source`, and two protocols in one
+services : first_serves (codes "object-group service S\n description some\n tcp www\n"
+    ++ codes " udp source gt 1023 range 53 80\n tcp-udp eq domain\n tcp source neq 22\n 132 lt 9\n")
+    ≡ Ok (service (Between (6 to 6)) None (ports ((80 to 80) ∷ []))
+    ∷ service (Between (17 to 17)) (ports ((1024 to 65535) ∷ [])) (ports ((53 to 80) ∷ []))
+    ∷ service TcpUdp None (ports ((53 to 53) ∷ []))
+    ∷ service (Between (6 to 6)) (but ((22 to 22) ∷ [])) None
+    ∷ service (Between (132 to 132)) None (ports ((0 to 8) ∷ [])) ∷ [])
+unfolding with_lines digits is_among is_entry is_end is_named named_words begins_part part_words
+    is_ip group_kinds opened_times number_named port_table protocol_table
+services = refl
+
+-- protocols without ports, and a group in the group
+protocols : first_serves (codes "object-group service S\n ip\n group-object T\n 50\n"
+    ++ codes "object-group service T\n icmp\n esp\n")
+    ≡ Ok (service (Between (0 to 255)) None None ∷ service (Between (1 to 1)) None None
+    ∷ service (Between (50 to 50)) None None ∷ service (Between (50 to 50)) None None ∷ [])
+unfolding with_lines digits is_among is_entry is_end is_named named_words begins_part part_words
+    is_ip group_kinds opened_times number_named port_table protocol_table
+protocols = refl
+
+a_type : first_serves (codes "object-group service S\n icmp echo\n") ≡ unserved 2 kind.IcmpType
+unfolding with_lines digits is_among is_entry is_end is_named named_words begins_part part_words
+    is_ip group_kinds opened_times number_named port_table protocol_table
+a_type = refl
+
+two_ports : first_serves (codes "object-group service S\n tcp\n tcp eq 80 443\n")
+    ≡ unserved 3 kind.UnknownWord
+unfolding with_lines digits is_among is_entry is_end is_named named_words begins_part part_words
+    is_ip group_kinds opened_times number_named port_table protocol_table
+two_ports = refl
+
+ports_of_esp : first_serves (codes "object-group service S\n esp 80\n")
+    ≡ unserved 2 kind.NeedsProtocol
+unfolding with_lines digits is_among is_entry is_end is_named named_words begins_part part_words
+    is_ip group_kinds opened_times number_named port_table protocol_table
+ports_of_esp = refl
+
+no_source : first_serves (codes "object-group service S\n tcp source\n")
+    ≡ unserved 2 kind.MissingWord
+unfolding with_lines digits is_among is_entry is_end is_named named_words begins_part part_words
+    is_ip group_kinds opened_times number_named port_table protocol_table
+no_source = refl
+
+of_networks :
+    first_serves (codes "object-group service S\n group-object T\nobject-group network T\n any\n")
+    ≡ unserved 2 kind.OtherKind
+unfolding with_lines digits is_among is_entry is_end is_named named_words begins_part part_words
+    is_ip group_kinds opened_times number_named port_table protocol_table
+of_networks = refl
+
+in_a_loop : first_serves (codes "object-group service S\n tcp\n group-object S\n")
+    ≡ unserved 3 kind.GroupLoop
+unfolding with_lines digits is_among is_entry is_end is_named named_words begins_part part_words
+    is_ip group_kinds opened_times number_named port_table protocol_table
+in_a_loop = refl

@@ -9,6 +9,9 @@ use Rattle.std.specs.Str.{bytes_eq}
 use Rattle.list_chains.specs.declared.span.Span.{Span}
 use Rattle.cisco_reader.specs.declared.entry.Addresses.{Addresses}
 use Rattle.cisco_reader.specs.declared.entry.Addresses.TheVariants as addresses
+use Rattle.cisco_reader.specs.declared.entry.Services.{Services}
+use Rattle.cisco_reader.specs.declared.entry.Services.TheVariants as services
+use Rattle.cisco_reader.specs.declared.services.Service.{Service}
 use Rattle.cisco_reader.specs.declared.held.TheConstants.{MAX_DEPTH, MAX_HELD}
 use Rattle.cisco_reader.specs.declared.fault.LineFault.{LineFault}
 use Rattle.cisco_reader.specs.declared.fault.LineKind.{LineKind}
@@ -17,6 +20,7 @@ use Rattle.cisco_reader.specs.declared.fault.LineKind.TheVariants.{MissingWord, 
 use Rattle.cisco_reader.specs.Groups.{GroupLine, ListedGroup, no_group, place_for}
 use Rattle.cisco_reader.specs.Members.{network_of_words}
 use Rattle.cisco_reader.specs.Read.{◌>>=◌, all_after}
+use Rattle.cisco_reader.specs.Services.{service_of_words}
 use Rattle.cisco_reader.specs.Wildcard.{spans_under}
 
 -- how many members a group may hold, with those of the groups in it
@@ -115,19 +119,27 @@ abbrev pub held : List ListedGroup → List ℕ → ℕ → ℕ → Result (List
 held groups kind number place =
     in_line number (filled (lines_at groups place)) >>= opened_times max_depth groups kind number
 
--- ---- addresses
+-- ---- what members stand for
 
--- the addresses so far, and those of a member
-abbrev pub with_network : List Span → GroupLine → Result (List Span) LineFault
-with_network so_far line =
-    in_line line.number (network_of_words line.words) >>= λ span. Ok (so_far ++ span ∷ [])
+-- what was read of members so far, and of one more, each by its words
+abbrev pub with_member : {A : Type 0} → (List (List ℕ) → Result A LineKind) → List A → GroupLine
+    → Result (List A) LineFault
+with_member read so_far line =
+    in_line line.number (read line.words) >>= λ it. Ok (so_far ++ it ∷ [])
 
--- the addresses of members
-abbrev pub networks : List GroupLine → Result (List Span) LineFault
-networks lines = all_after with_network [] lines
+-- what is read of members
+abbrev pub members : {A : Type 0} → (List (List ℕ) → Result A LineKind) → List GroupLine
+    → Result (List A) LineFault
+members read lines = all_after (with_member read) [] lines
 
 -- the addresses of an entry's side, which stands in a line
 abbrev pub address_spans : List ListedGroup → ℕ → Addresses → Result (List Span) LineFault
 address_spans groups number (addresses.Under it) = Ok (spans_under it)
 address_spans groups number (addresses.Group place) =
-    held groups (codes "network") number place >>= networks
+    held groups (codes "network") number place >>= members network_of_words
+
+-- the services of an entry, which stands in a line
+abbrev pub services_of : List ListedGroup → ℕ → Services → Result (List Service) LineFault
+services_of groups number (services.Own it) = Ok (it ∷ [])
+services_of groups number (services.Group place) =
+    held groups (codes "service") number place >>= members service_of_words

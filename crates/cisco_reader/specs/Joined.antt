@@ -7,15 +7,24 @@ use Rattle.text_scan.specs.Parts.{slash, cut_at}
 use Rattle.list_chains.specs.declared.span.Span.{Span}
 use Rattle.cisco_reader.specs.declared.entry.Addresses.{Addresses}
 use Rattle.cisco_reader.specs.declared.entry.Addresses.TheVariants.{Group, Under}
+use Rattle.cisco_reader.specs.declared.entry.Carried.{Carried}
+use Rattle.cisco_reader.specs.declared.entry.Carried.TheVariants as carried
+use Rattle.cisco_reader.specs.declared.entry.Services.{Services}
+use Rattle.cisco_reader.specs.declared.entry.Services.TheVariants as services
 use Rattle.cisco_reader.specs.declared.ports.Operator.TheVariants as operator
 use Rattle.cisco_reader.specs.declared.ports.PortPart.{PortPart}
+use Rattle.cisco_reader.specs.declared.protocols.Protocols.{Protocols}
+use Rattle.cisco_reader.specs.declared.protocols.Protocols.TheVariants as protocols
+use Rattle.cisco_reader.specs.declared.services.Service.{Service}
 use Rattle.cisco_reader.specs.declared.entry.Verdict.{Verdict}
 use Rattle.cisco_reader.specs.declared.entry.Entry.{Entry}
-use Rattle.cisco_reader.specs.Entry.{all_ones, entry_of, is_log, protocols_of}
+use Rattle.cisco_reader.specs.Entry.{all_ones, entry_of, is_log}
 use Rattle.cisco_reader.specs.Groups.{ListedGroup, place_for}
 use Rattle.cisco_reader.specs.Members.{network_of_words, prefix_span}
 use Rattle.cisco_reader.specs.Names.{number_of, port_of}
 use Rattle.cisco_reader.specs.Ports.{operator_named, ports_above, ports_below}
+use Rattle.cisco_reader.specs.Protocols.{protocols_of}
+use Rattle.cisco_reader.specs.Services.{service_of_words}
 use Rattle.cisco_reader.specs.Wildcard.{ip4_plain, under_mask}
 
 -- ---- addresses
@@ -67,6 +76,32 @@ pub data AreCompared (words : List (List ℕ)) (it : Option PortPart) : Type 0 w
       → it ≡ Some (record { negated = false; ports = record { low = low; high = high } ∷ [] })
       → AreCompared words it
 
+-- ---- protocols
+
+-- The words for what an entry begins with: a protocol, or `object-group` and the name of a group of
+-- services.
+pub data AreCarried (groups : List ListedGroup) (words : List (List ℕ)) (it : Carried) :
+    Type 0 where
+  Protocol : (word : List ℕ) (span : Span) → protocols_of word ≡ Ok span → words ≡ word ∷ []
+      → it ≡ carried.Protocol span → AreCarried groups words it
+  ServiceGroup : (word name : List ℕ) (place : ℕ) → bytes_eq word (codes "object-group") ≡ true
+      → place_for groups (codes "service") name ≡ Ok place → words ≡ word ∷ name ∷ []
+      → it ≡ carried.Group place → AreCarried groups words it
+
+-- The services of an entry: one of its protocols with the ports of both sides, or those of a group,
+-- beside which no ports stand.
+pub data AreServices (begins : Carried) (source destination : Option PortPart) (it : Services) :
+    Type 0 where
+  Own : (span : Span) → begins ≡ carried.Protocol span
+      → it ≡ services.Own (record {
+        protocols = protocols.Between span;
+        source = source;
+        destination = destination;
+      })
+      → AreServices begins source destination it
+  OfGroup : (place : ℕ) → begins ≡ carried.Group place → source ≡ None → destination ≡ None
+      → it ≡ services.Group place → AreServices begins source destination it
+
 -- ---- the log
 
 -- The words after the addresses: none; `log` or `log-input`; or one of them and a word for the log.
@@ -82,20 +117,24 @@ pub data AreLog (words : List (List ℕ)) : Type 0 where
 -- words after the verdict that are such parts, one after the other, and what they stand for
 pub record IsEntry (groups : List ListedGroup) (verdict : Verdict) (words : List (List ℕ))
     (entry : Entry) : Type 0 where
-  pub protocol : List ℕ
+  pub first : List (List ℕ)
   pub source : List (List ℕ)
   pub source_ports : List (List ℕ)
   pub destination : List (List ℕ)
   pub destination_ports : List (List ℕ)
   pub log : List (List ℕ)
+  pub begins : Carried
+  pub near : Option PortPart
+  pub far : Option PortPart
   pub permits : entry.verdict ≡ verdict
-  pub protocols : protocols_of protocol ≡ Ok entry.protocol
-  pub sources : AreAddresses groups source entry.source.addresses
-  pub compared_sources : AreCompared source_ports entry.source.ports
-  pub destinations : AreAddresses groups destination entry.destination.addresses
-  pub compared_destinations : AreCompared destination_ports entry.destination.ports
+  pub carries : AreCarried groups first begins
+  pub serves : AreServices begins near far entry.services
+  pub sources : AreAddresses groups source entry.source
+  pub compared_sources : AreCompared source_ports near
+  pub destinations : AreAddresses groups destination entry.destination
+  pub compared_destinations : AreCompared destination_ports far
   pub logs : AreLog log
-  pub joined : protocol ∷ (source ++ (source_ports ++ (destination ++ (destination_ports ++ log))))
+  pub joined : first ++ (source ++ (source_ports ++ (destination ++ (destination_ports ++ log))))
       ≡ words
 
 -- the words of an entry that is read are such parts
@@ -134,3 +173,42 @@ pub data IsNetwork (words : List (List ℕ)) (it : Span) : Type 0 where
 abbrev pub ReadMembersAreParts : Type 0
 ReadMembersAreParts =
     (words : List (List ℕ)) (it : Span) → network_of_words words ≡ Ok it → IsNetwork words it
+
+-- The words of some ports of a member of a group of services: a port alone, or a comparison with
+-- its ports.
+pub data AreSomePorts (words : List (List ℕ)) (it : Option PortPart) : Type 0 where
+  OnePort : (text : List ℕ) (port : ℕ) → port_of text ≡ Some port → words ≡ text ∷ []
+      → it ≡ Some (record { negated = false; ports = one port ∷ [] }) → AreSomePorts words it
+  Comparison : AreCompared words it → AreSomePorts words it
+
+-- The words of source ports, which stand after `source`, or of none.
+pub data AreSourcePorts (words : List (List ℕ)) (it : Option PortPart) : Type 0 where
+  NoSource : words ≡ [] → it ≡ None → AreSourcePorts words it
+  Source : (word : List ℕ) (texts : List (List ℕ)) → bytes_eq word (codes "source") ≡ true
+      → AreSomePorts texts it → words ≡ word ∷ texts → AreSourcePorts words it
+
+-- The words of destination ports, or of none.
+pub data AreDestinationPorts (words : List (List ℕ)) (it : Option PortPart) : Type 0 where
+  NoDestination : words ≡ [] → it ≡ None → AreDestinationPorts words it
+  Destination : AreSomePorts words it → AreDestinationPorts words it
+
+-- The word of protocols of a member: `tcp-udp`, or one as in an entry.
+pub data AreProtocols (word : List ℕ) (it : Protocols) : Type 0 where
+  Both : bytes_eq word (codes "tcp-udp") ≡ true → it ≡ protocols.TcpUdp → AreProtocols word it
+  Word : (span : Span) → protocols_of word ≡ Ok span → it ≡ protocols.Between span
+      → AreProtocols word it
+
+-- words of a member of a group of services that are such parts, one after the other
+pub record IsService (words : List (List ℕ)) (it : Service) : Type 0 where
+  pub protocol : List ℕ
+  pub source : List (List ℕ)
+  pub destination : List (List ℕ)
+  pub protocols : AreProtocols protocol it.protocols
+  pub sources : AreSourcePorts source it.source
+  pub destinations : AreDestinationPorts destination it.destination
+  pub joined : protocol ∷ (source ++ destination) ≡ words
+
+-- the words of such a member that is read are such parts
+abbrev pub ReadServicesAreParts : Type 0
+ReadServicesAreParts =
+    (words : List (List ℕ)) (it : Service) → service_of_words words ≡ Ok it → IsService words it

@@ -5,6 +5,8 @@ pub mod Wildcard
 pub mod WildcardExamples
 pub mod PortList
 pub mod Ports
+pub mod Protocols
+pub mod Services
 pub mod Heads
 pub mod Groups
 pub mod Entry

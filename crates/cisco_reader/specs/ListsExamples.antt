@@ -4,15 +4,17 @@ use Rattle.std.specs.Prelude.{◌≡◌, ℕ, ◌++◌, List, [], ◌∷◌, cod
 use Rattle.std.specs.Fmt.{digits}
 use Rattle.list_chains.specs.declared.span.Span.{Span}
 use Rattle.cisco_reader.specs.declared.entry.Addresses.TheVariants.{Under}
+use Rattle.cisco_reader.specs.declared.entry.Services.TheVariants.{Group, Own}
 use Rattle.cisco_reader.specs.declared.entry.Side.{Side}
 use Rattle.cisco_reader.specs.declared.entry.Verdict.{Verdict}
 use Rattle.cisco_reader.specs.declared.entry.Verdict.TheVariants.{Permit, Deny}
 use Rattle.cisco_reader.specs.declared.fault.LineFault.{LineFault}
 use Rattle.cisco_reader.specs.declared.fault.LineKind.{LineKind}
 use Rattle.cisco_reader.specs.declared.fault.LineKind.TheVariants as kind
+use Rattle.cisco_reader.specs.declared.protocols.Protocols.TheVariants.{Between}
 use Rattle.cisco_reader.specs.declared.sequence.Placed.{Placed}
 use Rattle.cisco_reader.specs.Entry.{log_words}
-use Rattle.cisco_reader.specs.Groups.{groups_of}
+use Rattle.cisco_reader.specs.Groups.{group_kinds, groups_of}
 use Rattle.cisco_reader.specs.Heads.{begins_part, is_end, is_entry, is_ip, is_named, named_words, part_words}
 use Rattle.cisco_reader.specs.Lines.{with_lines}
 use Rattle.cisco_reader.specs.Lists.{entries_of, entry_words, is_unread, setting_words, unread_kinds}
@@ -47,9 +49,13 @@ entry sequence line verdict protocol source destination = record {
   line = line;
   entry = record {
     verdict = verdict;
-    protocol = protocol;
-    source = source;
-    destination = destination;
+    services = Own (record {
+      protocols = Between protocol;
+      source = source.ports;
+      destination = destination.ports;
+    });
+    source = source.addresses;
+    destination = destination.addresses;
   };
 }
 
@@ -131,7 +137,38 @@ unfolding with_lines digits is_among number_named port_table protocol_table comp
     log_words is_entry is_end is_named named_words begins_part part_words entry_words
 below = refl
 
+-- the services are those of a group
+of_a_group : said_by (codes "object-group service S\n tcp www\nip access-list extended A\n"
+    ++ codes " permit object-group S any host 10.1.0.7 log\n")
+    ≡ Ok (record {
+      sequence = 10;
+      line = 4;
+      entry = record {
+        verdict = Permit;
+        services = Group 0;
+        source = any.addresses;
+        destination = (host 167837703).addresses;
+      };
+    } ∷ [])
+unfolding with_lines digits is_among number_named port_table protocol_table compared_words
+    log_words is_entry is_end is_named named_words begins_part part_words entry_words group_kinds
+of_a_group = refl
+
 -- ---- faults
+
+ports_beside_a_group : said_by (codes "object-group service S\n tcp\nip access-list extended A\n"
+    ++ codes " permit object-group S any any eq 80\n")
+    ≡ faulty 4 kind.Group
+unfolding with_lines digits is_among number_named port_table protocol_table compared_words
+    log_words is_entry is_end is_named named_words begins_part part_words entry_words group_kinds
+ports_beside_a_group = refl
+
+networks_for_services : said_by (codes "object-group network N\n any\nip access-list extended A\n"
+    ++ codes " permit object-group N any any\n")
+    ≡ faulty 4 kind.OtherKind
+unfolding with_lines digits is_among number_named port_table protocol_table compared_words
+    log_words is_entry is_end is_named named_words begins_part part_words entry_words group_kinds
+networks_for_services = refl
 
 established : one (codes "permit tcp any any established") ≡ faulty 2 kind.Compares
 unfolding with_lines digits is_among number_named port_table protocol_table compared_words

@@ -7,10 +7,10 @@ use Rattle.std.specs.Str.{bytes_eq}
 use Rattle.text_scan.specs.Parts.{slash, cut_at}
 use Rattle.list_chains.specs.declared.span.Span.{Span}
 use Rattle.cisco_reader.specs.declared.fault.LineKind.{LineKind}
-use Rattle.cisco_reader.specs.declared.fault.LineKind.TheVariants.{BadAddress, BadNetworkMask, MissingWord, UnknownWord}
-use Rattle.cisco_reader.specs.Entry.{all_ones, known}
+use Rattle.cisco_reader.specs.declared.fault.LineKind.TheVariants.{BadAddress, BadNetworkMask, MissingWord}
+use Rattle.cisco_reader.specs.Entry.{all_ones}
 use Rattle.cisco_reader.specs.Names.{number_of}
-use Rattle.cisco_reader.specs.Read.{◌>>=◌}
+use Rattle.cisco_reader.specs.Read.{◌>>=◌, alone, known}
 use Rattle.cisco_reader.specs.Wildcard.{ip4_plain}
 
 -- the addresses that agree with one in all but their last bits
@@ -19,11 +19,6 @@ prefix_span address free = record {
   low = address / 2 ^ free * 2 ^ free;
   high = address / 2 ^ free * 2 ^ free + (2 ^ free - 1);
 }
-
--- nothing may follow
-abbrev pub alone : {A : Type 0} → List (List ℕ) → A → Result A LineKind
-alone [] it = Ok it
-alone (word ∷ words) it = Err UnknownWord
 
 -- one address
 abbrev pub one_span : ℕ → Span

@@ -1,13 +1,12 @@
 -- The rules of entries over the fields of IPv4's layout: one for each box of packets that an entry
 -- catches, but for those with a port after `neq`. An entry catches the packets of its protocol
 -- whose source and destination have the addresses and the ports that it names (Cisco IOS Security
--- Command Reference, "permit (IP)").
-use Rattle.std.specs.Prelude.{ℕ, ◌-◌, ◌*◌, ◌^◌, nat_lt, if◌then◌else◌, List, [], ◌∷◌, ◌++◌, length, map, flat_map}
-use Rattle.std.specs.Prelude.{Option, Some, None, Result, Ok, Err}
+-- Command Reference, "permit (IP)"). One with a group of services catches those of each of them.
+use Rattle.std.specs.Prelude.{ℕ, ◌-◌, ◌*◌, ◌^◌, ◌||◌, nat_lt, if◌then◌else◌, List, [], ◌∷◌, ◌++◌, length, map, flat_map}
+use Rattle.std.specs.Prelude.{Bool, Option, Some, None, Result, Ok, Err}
 use Rattle.list_chains.specs.declared.span.Span.{Span}
 use Rattle.list_chains.specs.declared.chain.Target.TheVariants.{Decide}
 use Rattle.list_chains.specs.Chains.{ListRule}
-use Rattle.cisco_reader.specs.declared.entry.Entry.{Entry}
 use Rattle.cisco_reader.specs.declared.entry.Verdict.{Verdict}
 use Rattle.cisco_reader.specs.declared.entry.Verdict.TheVariants as verdict
 use Rattle.cisco_reader.specs.declared.sequence.Placed.{Placed}
@@ -15,12 +14,14 @@ use Rattle.cisco_reader.specs.declared.packets.Answers.{Answers}
 use Rattle.cisco_reader.specs.declared.packets.Answers.TheVariants as answers
 use Rattle.cisco_reader.specs.declared.packets.Packets.{Packets}
 use Rattle.cisco_reader.specs.declared.ports.PortPart.{PortPart}
+use Rattle.cisco_reader.specs.declared.services.Service.{Service}
 use Rattle.cisco_reader.specs.declared.reading.TheConstants.{MAX_LIST}
 use Rattle.cisco_reader.specs.declared.fault.LineFault.{LineFault}
 use Rattle.cisco_reader.specs.declared.fault.LineKind.TheVariants.{FileTooLong, LargeGroup}
 use Rattle.cisco_reader.specs.Groups.{ListedGroup, groups_of}
-use Rattle.cisco_reader.specs.Held.{address_spans, max_held}
+use Rattle.cisco_reader.specs.Held.{address_spans, max_held, services_of}
 use Rattle.cisco_reader.specs.Lists.{entries_of}
+use Rattle.cisco_reader.specs.Protocols.{protocol_spans}
 use Rattle.cisco_reader.specs.Read.{◌>>=◌, all_after}
 
 -- all numbers of so many bits
@@ -51,6 +52,10 @@ abbrev pub left_ports : Option PortPart → List Span
 left_ports None = []
 left_ports (Some part) = if part.negated then part.ports else []
 
+-- the packets of some protocols
+abbrev pub of_protocol : Span → Packets
+of_protocol span = record all_packets { protocol = span }
+
 -- packets with such source ports
 abbrev pub from_ports : Packets → Span → Packets
 from_ports packets span = record packets { source_ports = span }
@@ -67,11 +72,11 @@ from packets span = record packets { source = span }
 abbrev pub to : Packets → Span → Packets
 to packets span = record packets { destination = span }
 
--- the packets that an entry leaves out of its own
-abbrev pub left_out : Entry → List Packets
-left_out entry =
-    map (from_ports all_packets) (left_ports entry.source.ports)
-    ++ map (to_ports all_packets) (left_ports entry.destination.ports)
+-- the packets that a service leaves out of its own
+abbrev pub left_out : Service → List Packets
+left_out it =
+    map (from_ports all_packets) (left_ports it.source)
+    ++ map (to_ports all_packets) (left_ports it.destination)
 
 -- the spans of some packets, in the order of the layout
 abbrev pub spans_of : Packets → List Span
@@ -79,8 +84,8 @@ spans_of packets =
     packets.protocol ∷ packets.source ∷ packets.destination ∷ packets.source_ports
     ∷ packets.destination_ports ∷ []
 
--- what all rules of an entry have in common: the answer, the packets that they leave out, and the
--- numbers of each part that the entry wants
+-- what all rules of a service of an entry have in common: the answer, the packets that they leave
+-- out, and the numbers of each part that are wanted
 pub record EntryParts : Type 0 where
   pub answer : ℕ
   pub left : List Packets
@@ -127,31 +132,62 @@ abbrev pub answer_of : Answers → ℕ → Verdict → ℕ
 answer_of answers.Line line said = line
 answer_of answers.Verdict line said = verdict_answer said
 
--- the parts of an entry, whose addresses are these
-abbrev pub parts_of : Answers → Placed → List Span → List Span → EntryParts
-parts_of asked it sources destinations = record {
-  answer = answer_of asked it.line it.entry.verdict;
-  left = left_out it.entry;
-  sources = sources;
-  destinations = destinations;
-  source_ports = kept_ports it.entry.source.ports;
-  destination_ports = kept_ports it.entry.destination.ports;
+-- what all rules of an entry have in common: the answer, and the addresses
+pub record EntryPairs : Type 0 where
+  pub answer : ℕ
+  pub sources : List Span
+  pub destinations : List Span
+
+-- the parts of a service of an entry
+abbrev pub parts_of : EntryPairs → Service → EntryParts
+parts_of pairs it = record {
+  answer = pairs.answer;
+  left = left_out it;
+  sources = pairs.sources;
+  destinations = pairs.destinations;
+  source_ports = kept_ports it.source;
+  destination_ports = kept_ports it.destination;
 }
 
--- the rules of an entry with these addresses, if they don't make too many pairs
-abbrev pub paired : Answers → Placed → List Span → List Span
+-- the rules of a service of an entry, by its protocols
+abbrev pub service_rules : EntryPairs → Service → List (ListRule (List Span))
+service_rules pairs it =
+    flat_map (λ span. from_rules (parts_of pairs it) (of_protocol span))
+    (protocol_spans it.protocols)
+
+-- there are too many pairs of addresses, or of those and services
+abbrev pub are_many : EntryPairs → List Service → Bool
+are_many pairs services =
+    nat_lt max_held (length pairs.sources * length pairs.destinations)
+    || nat_lt max_held (length pairs.sources * length pairs.destinations * length services)
+
+-- the rules of an entry of a line with these addresses, service by service, if they aren't too many
+abbrev pub paired : ℕ → EntryPairs → List Service → Result (List (ListRule (List Span))) LineFault
+paired line pairs services =
+    if are_many pairs services then Err (record { line = line; kind = LargeGroup })
+    else Ok (flat_map (service_rules pairs) services)
+
+-- the rules so far, and those of such an entry
+abbrev pub with_paired : List (ListRule (List Span)) → ℕ → EntryPairs → List Service
     → Result (List (ListRule (List Span))) LineFault
-paired asked it sources destinations =
-    if nat_lt max_held (length sources * length destinations)
-    then Err (record { line = it.line; kind = LargeGroup })
-    else Ok (from_rules (parts_of asked it sources destinations)
-    (record all_packets { protocol = it.entry.protocol }))
+with_paired so_far line pairs services =
+    paired line pairs services >>= λ rules. Ok (so_far ++ rules)
+
+-- the answer of an entry, with these addresses
+abbrev pub pairs_of : Answers → Placed → List Span → List Span → EntryPairs
+pairs_of asked it sources destinations = record {
+  answer = answer_of asked it.line it.entry.verdict;
+  sources = sources;
+  destinations = destinations;
+}
 
 -- the rules of an entry, with what its groups hold
 abbrev pub rules_of : List ListedGroup → Answers → Placed
     → Result (List (ListRule (List Span))) LineFault
-rules_of groups asked it = address_spans groups it.line it.entry.source.addresses >>= λ sources.
-    (address_spans groups it.line it.entry.destination.addresses >>= paired asked it sources)
+rules_of groups asked it = address_spans groups it.line it.entry.source >>= λ sources.
+    (address_spans groups it.line it.entry.destination >>= λ destinations.
+    (services_of groups it.line it.entry.services >>=
+    paired it.line (pairs_of asked it sources destinations)))
 
 -- the rules so far, and those of an entry
 abbrev pub with_rules : List ListedGroup → Answers → List (ListRule (List Span)) → Placed

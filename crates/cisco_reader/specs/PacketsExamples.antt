@@ -1,12 +1,13 @@
 -- Examples of rules of entries, each checked by evaluation: their addresses stand as spans.
-use Rattle.std.specs.Prelude.{◌≡◌, ℕ, List, [], ◌∷◌, true, Some, refl}
+use Rattle.std.specs.Prelude.{◌≡◌, ℕ, List, [], ◌∷◌, true, false, Some, None, refl}
 use Rattle.list_chains.specs.declared.chain.Target.TheVariants.{Decide}
 use Rattle.list_chains.specs.declared.span.Span.{Span}
 use Rattle.list_chains.specs.Chains.{ListRule}
 use Rattle.cisco_reader.specs.declared.entry.Verdict.TheVariants.{Permit, Deny}
 use Rattle.cisco_reader.specs.declared.packets.Answers.TheVariants.{Line, Verdict}
+use Rattle.cisco_reader.specs.declared.protocols.Protocols.TheVariants.{TcpUdp}
 use Rattle.cisco_reader.specs.Packets.{EntryParts, all_packets, answer_of, from_ports, from_rules}
-use Rattle.cisco_reader.specs.Packets.{kept_ports, left_ports}
+use Rattle.cisco_reader.specs.Packets.{kept_ports, left_ports, service_rules}
 
 -- the numbers from one to another
 infixl 20 ◌to◌
@@ -38,6 +39,26 @@ four_rules : from_rules parts (record all_packets { protocol = 6 to 6 })
     ≡ rule (1 to 1) (80 to 80) ∷ rule (1 to 1) (443 to 443) ∷ rule (4 to 7) (80 to 80)
     ∷ rule (4 to 7) (443 to 443) ∷ []
 four_rules = refl
+
+-- the rule of one protocol to a port
+abbrev served : Span → ListRule (List Span)
+served protocol = record {
+  userdata = 8;
+  inside = protocol ∷ (1 to 1) ∷ (9 to 9) ∷ (0 to 65535) ∷ (53 to 53) ∷ [];
+  but = [];
+  target = Decide;
+}
+
+-- `tcp-udp` is one for each of both
+both : service_rules
+    (record { answer = 8; sources = (1 to 1) ∷ []; destinations = (9 to 9) ∷ [] })
+    (record {
+      protocols = TcpUdp;
+      source = None;
+      destination = Some (record { negated = false; ports = (53 to 53) ∷ [] });
+    })
+    ≡ served (6 to 6) ∷ served (17 to 17) ∷ []
+both = refl
 
 -- after neq all ports are in the box, and those that are named are left out of it
 kept : kept_ports (Some (record { negated = true; ports = (23 to 23) ∷ [] })) ≡ (0 to 65535) ∷ []

@@ -80,6 +80,30 @@ with_operator it words = compared it words >>= λ read.
       words = read.words;
     })
 
+-- one port
+abbrev pub one_port : List (List ℕ) → Result (After (List Span)) LineKind
+one_port words = next_port words >>= λ port.
+    Ok (record {
+      value = record { low = port.value; high = port.value } ∷ [];
+      words = port.words;
+    })
+
+-- what stands after a comparison in a group, where `eq` and `neq` have one port
+abbrev pub compared_once : Operator → List (List ℕ) → Result (After (List Span)) LineKind
+compared_once operator.Equal words = one_port words
+compared_once operator.NotEqual words = one_port words
+compared_once operator.Greater words = above words
+compared_once operator.Less words = below words
+compared_once operator.Range words = range words
+
+-- the same with what the comparison is
+abbrev pub with_one : Operator → List (List ℕ) → Result (After (Option PortPart)) LineKind
+with_one it words = compared_once it words >>= λ read.
+    Ok (record {
+      value = Some (record { negated = is_negated it; ports = read.value });
+      words = read.words;
+    })
+
 -- a comparison may stand there, or none
 abbrev pub or_none : List (List ℕ) → List (List ℕ) → Option Operator
     → Result (After (Option PortPart)) LineKind

@@ -2,16 +2,17 @@
 
 ghost use Rattle.std.specs.Prelude.{◌≡◌, MatchResult, Ok, Err};
 ghost use Rattle.text_scan.specs.Parts.{words_of};
-ghost use Rattle.cisco_reader.specs.Entry.{addresses_of, checked, compares_ports, entry_of, grouped, has_ports};
-ghost use Rattle.cisco_reader.specs.Entry.{host, is_log, is_one, is_told, log_fault, log_words, masked, one_protocol};
-ghost use Rattle.cisco_reader.specs.Entry.{has_types, option_fault};
-ghost use Rattle.cisco_reader.specs.Entry.{options_fault, protocols, protocols_of, side_of, sides, under};
-ghost use Rattle.cisco_reader.specs.Entry.{with_destination, with_mask};
+ghost use Rattle.cisco_reader.specs.Entry.{addresses_of, carried_of, entry_of, entry_with, group_carried, grouped};
+ghost use Rattle.cisco_reader.specs.Entry.{host, is_log, is_told, log_fault, log_words, masked, named_group};
+ghost use Rattle.cisco_reader.specs.Entry.{option_fault, options_fault, protocols_in, services_with, side_of, sides};
+ghost use Rattle.cisco_reader.specs.Entry.{under, with_destination, with_mask};
 
 use crate::fault::LineKind;
 use crate::groups::{Group, place_for};
-use crate::names::{MAX_PROTOCOL, is_among, is_compared, protocol_number};
+use crate::names::{is_among, is_compared};
 use crate::ports::{PortPart, port_part};
+use crate::protocols::{ANY_PROTOCOL, Protocols, has_types, protocols_of};
+use crate::services::{Service, are_compared, service_of};
 use crate::wildcard::{Wildcard, gaps, ip4_plain, under_mask};
 use list_chains::Span;
 use text_scan::next_word;
@@ -24,12 +25,6 @@ const ANY_ADDRESS: Addresses = Addresses::Under(Wildcard {
     base: 0,
     free: 4_294_967_295,
 });
-
-/// All protocols.
-const ANY_PROTOCOL: Span = Span {
-    low: 0,
-    high: MAX_PROTOCOL,
-};
 
 /// What an entry does with its packets.
 #[derive(Clone, Copy)]
@@ -54,13 +49,31 @@ pub(crate) struct Side {
     pub(crate) ports: Option<PortPart>,
 }
 
+/// What an entry begins with after its verdict.
+#[derive(Clone, Copy)]
+pub(crate) enum Carried {
+    /// Protocols.
+    Protocol(Span),
+    /// The group of services of a place.
+    Group(usize),
+}
+
+/// The services of an entry.
+#[derive(Drop)]
+pub(crate) enum Services {
+    /// Its own one.
+    Own(Service),
+    /// Those of the group of a place.
+    Group(usize),
+}
+
 /// What an entry says.
 #[derive(Drop)]
 pub(crate) struct Entry {
     pub(crate) verdict: Verdict,
-    pub(crate) protocol: Span,
-    pub(crate) source: Side,
-    pub(crate) destination: Side,
+    pub(crate) services: Services,
+    pub(crate) source: Addresses,
+    pub(crate) destination: Addresses,
 }
 
 /// One address, and the text after it.
@@ -127,6 +140,24 @@ fn with_mask<'a>(word: &[u8], text: &'a [u8]) -> Result<(Addresses, &'a [u8]), L
     }
 }
 
+/// The place of the group of a kind that is named next, and the text after its name.
+fn named_group<'a>(
+    groups: &[Group],
+    kind: &[u8],
+    text: &'a [u8],
+) -> Result<(usize, &'a [u8]), LineKind>
+    ensures { MatchResult result
+        (λ read. named_group groups.now kind.now (words_of text.now)
+        ≡ Ok (record { value = read.0; words = words_of read.1.now }))
+        (λ fault. named_group groups.now kind.now (words_of text.now) ≡ Err fault) }
+{
+    let Some((name, rest)) = next_word(text) else {
+        return Err(LineKind::MissingWord);
+    };
+    let place = place_for(groups, kind, name)?;
+    Ok((place, rest))
+}
+
 /// The addresses of a group of networks, and the text after its name.
 fn grouped<'a>(groups: &[Group], text: &'a [u8]) -> Result<(Addresses, &'a [u8]), LineKind>
     ensures { MatchResult result
@@ -134,10 +165,7 @@ fn grouped<'a>(groups: &[Group], text: &'a [u8]) -> Result<(Addresses, &'a [u8])
         ≡ Ok (record { value = read.0; words = words_of read.1.now }))
         (λ kind. grouped groups.now (words_of text.now) ≡ Err kind) }
 {
-    let Some((name, rest)) = next_word(text) else {
-        return Err(LineKind::MissingWord);
-    };
-    let place = place_for(groups, b"network".as_slice(), name)?;
+    let (place, rest) = named_group(groups, b"network".as_slice(), text)?;
     Ok((Addresses::Group(place), rest))
 }
 
@@ -177,68 +205,42 @@ fn side_of<'a>(groups: &[Group], text: &'a [u8]) -> Result<(Side, &'a [u8]), Lin
     }
 }
 
-/// A protocol by its number.
-fn one_protocol(number: u64) -> Result<Span, LineKind>
-    ensures { result ≡ one_protocol number }
+/// The services of a group of them, and the text after its name.
+fn group_carried<'a>(groups: &[Group], text: &'a [u8]) -> Result<(Carried, &'a [u8]), LineKind>
+    ensures { MatchResult result
+        (λ read. group_carried groups.now (words_of text.now)
+        ≡ Ok (record { value = read.0; words = words_of read.1.now }))
+        (λ kind. group_carried groups.now (words_of text.now) ≡ Err kind) }
 {
-    if number == 0 {
-        return Err(LineKind::ZeroProtocol);
-    }
-    Ok(Span {
-        low: number,
-        high: number,
-    })
-}
-
-/// The protocols that a word stands for.
-fn protocols_of(word: &[u8]) -> Result<Span, LineKind>
-    ensures { result ≡ protocols_of word.now }
-{
-    if word == b"ip".as_slice() {
-        return Ok(ANY_PROTOCOL);
-    }
-    if word == b"object-group".as_slice() {
-        return Err(LineKind::Group);
-    }
-    match protocol_number(word) {
-        Some(number) => one_protocol(number),
-        None => Err(LineKind::BadProtocol),
-    }
+    let (place, rest) = named_group(groups, b"service".as_slice(), text)?;
+    Ok((Carried::Group(place), rest))
 }
 
 /// What stands for protocols, and the text after it.
-fn protocols(text: &[u8]) -> Result<(Span, &[u8]), LineKind>
+fn carried_of<'a>(groups: &[Group], text: &'a [u8]) -> Result<(Carried, &'a [u8]), LineKind>
     ensures { MatchResult result
-        (λ read. protocols (words_of text.now)
+        (λ read. carried_of groups.now (words_of text.now)
         ≡ Ok (record { value = read.0; words = words_of read.1.now }))
-        (λ kind. protocols (words_of text.now) ≡ Err kind) }
+        (λ kind. carried_of groups.now (words_of text.now) ≡ Err kind) }
 {
     let Some((word, rest)) = next_word(text) else {
         return Err(LineKind::MissingWord);
     };
+    if word == b"object-group".as_slice() {
+        return group_carried(groups, rest);
+    }
     let span = protocols_of(word)?;
-    Ok((span, rest))
+    Ok((Carried::Protocol(span), rest))
 }
 
-/// Whether an entry is about one protocol of this number alone.
-fn is_one(number: u64, span: Span) -> bool
-    ensures { result ≡ is_one number span }
+/// The protocols that options after the addresses may be about.
+fn protocols_in(carried: Carried) -> Span
+    ensures { result ≡ protocols_in carried }
 {
-    span.low == number && span.high == number
-}
-
-/// Whether a protocol has types of messages: ICMP of IPv4 or of IPv6.
-fn has_types(span: Span) -> bool
-    ensures { result ≡ has_types span }
-{
-    is_one(1, span) || is_one(58, span)
-}
-
-/// Whether a protocol has ports that keys have: TCP, UDP or SCTP.
-fn has_ports(span: Span) -> bool
-    ensures { result ≡ has_ports span }
-{
-    is_one(6, span) || is_one(17, span) || is_one(132, span)
+    match carried {
+        Carried::Protocol(span) => span,
+        Carried::Group(_) => ANY_PROTOCOL,
+    }
 }
 
 /// Why a word after the addresses isn't read.
@@ -302,29 +304,61 @@ fn is_told(span: Span, word: &[u8]) -> bool
     is_compared(word) || has_types(span)
 }
 
-/// Whether an entry compares ports on a side.
-fn compares_ports(entry: &Entry) -> bool
-    ensures { result ≡ compares_ports entry.now }
+/// The services of an entry, if what it begins with may have such ports.
+fn services_with(
+    carried: Carried,
+    source: Option<PortPart>,
+    destination: Option<PortPart>,
+) -> Result<Services, LineKind>
+    ensures { result ≡ services_with carried source destination }
 {
-    entry.source.ports.is_some() || entry.destination.ports.is_some()
+    match carried {
+        Carried::Protocol(span) => {
+            match service_of(Protocols::Between(span), source, destination) {
+                Ok(it) => Ok(Services::Own(it)),
+                Err(kind) => Err(kind),
+            }
+        }
+        Carried::Group(place) => {
+            if are_compared(&source, &destination) {
+                return Err(LineKind::Group);
+            }
+            Ok(Services::Group(place))
+        }
+    }
 }
 
-/// An entry whose protocol has ports, if any are compared.
-fn checked(entry: Entry) -> Result<Entry, LineKind>
-    ensures { result ≡ checked entry }
+/// An entry by its parts.
+fn entry_with(
+    verdict: Verdict,
+    carried: Carried,
+    source: Side,
+    destination: Side,
+) -> Result<Entry, LineKind>
+    ensures { result ≡ entry_with verdict carried source destination }
 {
-    if compares_ports(&entry) && !has_ports(entry.protocol) {
-        return Err(LineKind::NeedsProtocol);
+    match services_with(carried, source.ports, destination.ports) {
+        Ok(services) => Ok(Entry {
+            verdict,
+            services,
+            source: source.addresses,
+            destination: destination.addresses,
+        }),
+        Err(kind) => Err(kind),
     }
-    Ok(entry)
 }
 
 /// Both sides of an entry, and what stands after them.
-fn sides(groups: &[Group], verdict: Verdict, protocol: Span, text: &[u8]) -> Result<Entry, LineKind>
-    ensures { result ≡ sides groups.now verdict protocol (words_of text.now) }
+fn sides(
+    groups: &[Group],
+    verdict: Verdict,
+    carried: Carried,
+    text: &[u8],
+) -> Result<Entry, LineKind>
+    ensures { result ≡ sides groups.now verdict carried (words_of text.now) }
 {
     match side_of(groups, text) {
-        Ok((source, rest)) => with_destination(groups, verdict, protocol, source, rest),
+        Ok((source, rest)) => with_destination(groups, verdict, carried, source, rest),
         Err(kind) => Err(kind),
     }
 }
@@ -333,23 +367,18 @@ fn sides(groups: &[Group], verdict: Verdict, protocol: Span, text: &[u8]) -> Res
 fn with_destination(
     groups: &[Group],
     verdict: Verdict,
-    protocol: Span,
+    carried: Carried,
     source: Side,
     text: &[u8],
 ) -> Result<Entry, LineKind>
-    ensures { result ≡ with_destination groups.now verdict protocol source (words_of text.now) }
+    ensures { result ≡ with_destination groups.now verdict carried source (words_of text.now) }
 {
     match side_of(groups, text) {
         Ok((destination, rest)) => {
-            if let Some(kind) = options_fault(protocol, rest) {
+            if let Some(kind) = options_fault(protocols_in(carried), rest) {
                 return Err(kind);
             }
-            checked(Entry {
-                verdict,
-                protocol,
-                source,
-                destination,
-            })
+            entry_with(verdict, carried, source, destination)
         }
         Err(kind) => Err(kind),
     }
@@ -359,6 +388,6 @@ fn with_destination(
 pub(crate) fn entry_of(groups: &[Group], verdict: Verdict, text: &[u8]) -> Result<Entry, LineKind>
     ensures { result ≡ entry_of groups.now verdict (words_of text.now) }
 {
-    let (protocol, rest) = protocols(text)?;
-    sides(groups, verdict, protocol, rest)
+    let (carried, rest) = carried_of(groups, text)?;
+    sides(groups, verdict, carried, rest)
 }

@@ -64,7 +64,7 @@ pub enum LineKind {
     LooseEntry,
     /// The line ends where a word is missing.
     MissingWord,
-    /// A group of services is named, which isn't read here.
+    /// Ports are compared beside a group of services, which has its own.
     Group,
     /// The line has `object-group`, and not exactly a kind that is known here and a name after it.
     BadGroup,
@@ -78,7 +78,7 @@ pub enum LineKind {
     EmptyGroup,
     /// The group that the line names lies within itself, or in more than 100 others.
     GroupLoop,
-    /// A group of the entry holds more than 65,536 members, or its groups make more pairs.
+    /// A group of the entry holds more than 65,536 members, or the members make more combinations.
     LargeGroup,
     /// The mask of a group's member is none of a network, or leaves out bits of the address.
     BadNetworkMask,
@@ -98,7 +98,7 @@ pub enum LineKind {
     NeedsProtocol,
     /// The entry compares what a rule can't: flags, fragments, marks, times or states.
     Compares,
-    /// The entry compares a type of ICMP.
+    /// The entry or the group's member compares a type of ICMP.
     IcmpType,
     /// The word isn't known at this place.
     UnknownWord,

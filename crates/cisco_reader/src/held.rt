@@ -3,12 +3,15 @@
 ghost use Rattle.std.specs.Prelude.{◌≡◌, ◌<◌, ◌++◌, [], ◌∷◌, length, IfErr, IfOk, IfSome, MatchResult, OnOk, Ok, Err};
 ghost use Rattle.text_scan.specs.Parts.{words_of};
 ghost use Rattle.cisco_reader.specs.Held as meant;
+ghost use Rattle.cisco_reader.specs.Members.{network_of_words};
+ghost use Rattle.cisco_reader.specs.Services.{service_of_words};
 ghost use Rattle.cisco_reader.specs.Stops.{Fails};
 
-use crate::entry::Addresses;
+use crate::entry::{Addresses, Services};
 use crate::fault::{CiscoFault, LineKind, line_fault};
 use crate::groups::{Group, Line, place_for};
 use crate::members::network_of_words;
+use crate::services::{Service, service_of_words};
 use crate::wildcard::spans_under;
 use list_chains::Span;
 use std::alloc::{AllocError, Global};
@@ -234,8 +237,10 @@ fn put_span(into: &mut Vec<Span>, span: Span) -> Result<(), AllocError>
 
 /// Puts the addresses of a member.
 fn put_network(into: &mut Vec<Span>, line: &Line) -> Result<(), CiscoFault>
-    ensures ok { OnOk result (meant.with_network into.old.items line.now ≡ Ok into.new.items) }
-    ensures err { IfErr result (Fails (meant.with_network into.old.items line.now)) }
+    ensures ok { OnOk result
+        (meant.with_member network_of_words into.old.items line.now ≡ Ok into.new.items) }
+    ensures err { IfErr result
+        (Fails (meant.with_member network_of_words into.old.items line.now)) }
 {
     match network_of_words(line.text()) {
         Ok(span) => {
@@ -248,8 +253,9 @@ fn put_network(into: &mut Vec<Span>, line: &Line) -> Result<(), CiscoFault>
 
 /// The addresses of members.
 fn networks(alloc: Global, lines: &[Line]) -> Result<Vec<Span>, CiscoFault>
-    ensures ok { IfOk result (λ spans. meant.networks lines.now ≡ Ok spans.items) }
-    ensures err { IfErr result (Fails (meant.networks lines.now)) }
+    ensures ok { IfOk result
+        (λ spans. meant.members network_of_words lines.now ≡ Ok spans.items) }
+    ensures err { IfErr result (Fails (meant.members network_of_words lines.now)) }
 {
     let mut into = Vec::new(alloc);
     for line in lines {
@@ -289,4 +295,58 @@ pub(crate) fn address_spans(
         Addresses::Under(it) => Ok(spans_under(alloc, it)?),
         Addresses::Group(place) => group_spans(alloc, groups, number, place),
     }
+}
+
+/// Puts a service after others.
+fn push_service(into: &mut Vec<Service>, service: Service) -> Result<(), AllocError>
+    ensures { OnOk result (into.new.items ≡ into.old.items ++ service ∷ []) }
+{
+    into.push(service)?;
+    Ok(())
+}
+
+/// Puts the service of a member.
+fn put_service(into: &mut Vec<Service>, line: &Line) -> Result<(), CiscoFault>
+    ensures ok { OnOk result
+        (meant.with_member service_of_words into.old.items line.now ≡ Ok into.new.items) }
+    ensures err { IfErr result
+        (Fails (meant.with_member service_of_words into.old.items line.now)) }
+{
+    match service_of_words(line.text()) {
+        Ok(service) => {
+            push_service(into, service)?;
+            Ok(())
+        }
+        Err(kind) => Err(line_fault(line.number(), kind)),
+    }
+}
+
+/// The services of members.
+fn member_services(alloc: Global, lines: &[Line]) -> Result<Vec<Service>, CiscoFault>
+    ensures ok { IfOk result
+        (λ found. meant.members service_of_words lines.now ≡ Ok found.items) }
+    ensures err { IfErr result (Fails (meant.members service_of_words lines.now)) }
+{
+    let mut into = Vec::new(alloc);
+    for line in lines {
+        put_service(&mut into, line)?;
+    }
+    Ok(into)
+}
+
+/// The services of the group of a place, which an entry in a line names. It takes the memory of
+/// them.
+pub(crate) fn group_services(
+    alloc: Global,
+    groups: &[Group],
+    number: u32,
+    place: usize,
+) -> Result<Vec<Service>, CiscoFault>
+    ensures ok { IfOk result (λ found.
+        meant.services_of groups.now number (Services.Group place) ≡ Ok found.items) }
+    ensures err { IfErr result
+        (Fails (meant.services_of groups.now number (Services.Group place))) }
+{
+    let lines = held(alloc, groups, b"service".as_slice(), number, place)?;
+    member_services(alloc, &lines)
 }

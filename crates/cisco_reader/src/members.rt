@@ -2,7 +2,8 @@
 
 ghost use Rattle.std.specs.Prelude.{◌≡◌, ◌≤◌, ◌^◌, ◌<◌};
 ghost use Rattle.text_scan.specs.Parts.{cut_at, slash, words_of};
-ghost use Rattle.cisco_reader.specs.Members.{alone, host_member, is_network_mask, length_or_mask, masked_span};
+ghost use Rattle.cisco_reader.specs.Read.{alone};
+ghost use Rattle.cisco_reader.specs.Members.{host_member, is_network_mask, length_or_mask, masked_span};
 ghost use Rattle.cisco_reader.specs.Members.{network_member, network_of, network_of_words, one_span, plain_member};
 ghost use Rattle.cisco_reader.specs.Members.{prefix_span, prefixed, range_of, span_to};
 

@@ -2,8 +2,9 @@
 
 ghost use Rattle.std.specs.Prelude.{◌≡◌, ◌≤◌, IfOk, MatchResult, Ok, Err};
 ghost use Rattle.text_scan.specs.Parts.{words_of};
-ghost use Rattle.cisco_reader.specs.Ports.{above, below, compared, is_negated, next_port, operator_named};
-ghost use Rattle.cisco_reader.specs.Ports.{port_part, ports_above, ports_below, range, with_operator};
+ghost use Rattle.cisco_reader.specs.Ports.{above, below, compared, compared_once, is_negated, next_port, one_port};
+ghost use Rattle.cisco_reader.specs.Ports.{operator_named, port_part, ports_above, ports_below, range};
+ghost use Rattle.cisco_reader.specs.Ports.{with_one, with_operator};
 
 use crate::fault::LineKind;
 use crate::names::{MAX_PORT, port};
@@ -33,7 +34,7 @@ pub(crate) enum Operator {
 }
 
 /// The comparison that a word names.
-fn operator_named(word: &[u8]) -> Option<Operator>
+pub(crate) fn operator_named(word: &[u8]) -> Option<Operator>
     ensures { result ≡ operator_named word.now }
 {
     if word == b"eq".as_slice() {
@@ -141,6 +142,30 @@ fn compared(operator: Operator, text: &[u8]) -> Result<(Ports, &[u8]), LineKind>
     }
 }
 
+/// One port.
+fn one_port(text: &[u8]) -> Result<(Ports, &[u8]), LineKind>
+    ensures { MatchResult result
+        (λ read. one_port (words_of text.now)
+        ≡ Ok (record { value = read.0; words = words_of read.1.now }))
+        (λ kind. one_port (words_of text.now) ≡ Err kind) }
+{
+    let (number, rest) = next_port(text)?;
+    Ok((Ports::one(number, number), rest))
+}
+
+/// The ports after a comparison in a group, where `eq` and `neq` have one port.
+fn compared_once(operator: Operator, text: &[u8]) -> Result<(Ports, &[u8]), LineKind>
+    ensures { MatchResult result
+        (λ read. compared_once operator (words_of text.now)
+        ≡ Ok (record { value = read.0; words = words_of read.1.now }))
+        (λ kind. compared_once operator (words_of text.now) ≡ Err kind) }
+{
+    match operator {
+        Operator::Equal | Operator::NotEqual => one_port(text),
+        Operator::Greater | Operator::Less | Operator::Range => compared(operator, text),
+    }
+}
+
 /// Whether the ports of a comparison are left out.
 fn is_negated(operator: Operator) -> bool
     ensures { result ≡ is_negated operator }
@@ -175,6 +200,28 @@ fn with_operator(operator: Operator, text: &[u8]) -> Result<(Option<PortPart>, &
         (λ kind. with_operator operator (words_of text.now) ≡ Err kind) }
 {
     match compared(operator, text) {
+        Ok((ports, rest)) => Ok((
+            Some(PortPart {
+                negated: is_negated(operator),
+                ports,
+            }),
+            rest,
+        )),
+        Err(kind) => Err(kind),
+    }
+}
+
+/// The same in a group.
+pub(crate) fn with_one(
+    operator: Operator,
+    text: &[u8],
+) -> Result<(Option<PortPart>, &[u8]), LineKind>
+    ensures { MatchResult result
+        (λ read. with_one operator (words_of text.now)
+        ≡ Ok (record { value = read.0; words = words_of read.1.now }))
+        (λ kind. with_one operator (words_of text.now) ≡ Err kind) }
+{
+    match compared_once(operator, text) {
         Ok((ports, rest)) => Ok((
             Some(PortPart {
                 negated: is_negated(operator),

@@ -1,7 +1,7 @@
 -- The rules so far.
 use Rattle.list_lemmas.proofs.Loops.{Joined}
 use Rattle.cisco_reader.specs.Packets.{from, to_rules}
-use Rattle.cisco_reader.proofs.packets.Parts.put_from.Given as goal
+use Rattle.cisco_reader.proofs.entry_rules.Parts.put_from.Given as goal
 
 -- there are those of each span so far
 abbrev pub invariant-loop-span : goal.invariant-loop-span

@@ -2,7 +2,7 @@
 use Rattle.std.proofs.Common.{[]}
 use Rattle.cisco_reader.specs.Packets.{with_rules}
 use Rattle.cisco_reader.proofs.Steps.{IsMadeUpTo}
-use Rattle.cisco_reader.proofs.packets.all_rules.Given as goal
+use Rattle.cisco_reader.proofs.entry_rules.all_rules.Given as goal
 
 -- there are those of each entry so far
 abbrev pub invariant-loop-placed : goal.invariant-loop-placed

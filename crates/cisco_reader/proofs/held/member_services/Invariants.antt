@@ -1,0 +1,10 @@
+-- The services so far.
+use Rattle.std.proofs.Common.{[]}
+use Rattle.cisco_reader.specs.Held.{with_member}
+use Rattle.cisco_reader.specs.Services.{service_of_words}
+use Rattle.cisco_reader.proofs.Steps.{IsMadeUpTo}
+use Rattle.cisco_reader.proofs.held.member_services.Given as goal
+
+-- there is that of each member so far
+abbrev pub invariant-loop-line : goal.invariant-loop-line
+invariant-loop-line l = IsMadeUpTo (with_member service_of_words) [] l.lines l.line-index l.into.items
