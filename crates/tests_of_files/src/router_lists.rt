@@ -59,6 +59,21 @@ const GROUPED: &str = "object-group network SERVERS\n \
     object-group network PARTNERS\n \
     203.0.113.64/26\n";
 
+/// A configuration whose list A names groups of services.
+const SERVED: &str = "object-group service MANAGE\n \
+    tcp source gt 1023 22\n \
+    tcp-udp eq domain\n \
+    group-object WEB\n \
+    esp\n\
+    object-group service WEB\n \
+    description pages\n \
+    tcp www\n \
+    udp neq 443\n\
+    ip access-list extended A\n \
+    permit object-group MANAGE any host 192.0.2.10 log\n \
+    permit object-group WEB any any\n \
+    deny   tcp any any\n";
+
 /// The rules of a list of a configuration.
 fn rules_of(
     rt: &impl Abort,
@@ -118,6 +133,21 @@ const OF_GROUPS: [Packet; 7] = [
     Packet(6, [192, 0, 2, 10], [10, 1, 2, 3], 9, 443, 9),
 ];
 
+/// Packets of services, each with the line that decides it: none decides the last one.
+const OF_SERVICES: [Packet; 11] = [
+    Packet(6, [10, 1, 2, 3], SERVER, 1024, 22, 11),
+    Packet(6, [10, 1, 2, 3], SERVER, 1023, 22, 13),
+    Packet(6, [10, 1, 2, 3], SERVER, 9, 53, 11),
+    Packet(17, [10, 1, 2, 3], SERVER, 9, 53, 11),
+    Packet(6, [10, 1, 2, 3], [192, 0, 2, 11], 9, 53, 13),
+    Packet(6, [10, 1, 2, 3], SERVER, 9, 80, 11),
+    Packet(6, [10, 1, 2, 3], [192, 0, 2, 11], 9, 80, 12),
+    Packet(17, [10, 1, 2, 3], SERVER, 9, 442, 11),
+    Packet(17, [10, 1, 2, 3], [192, 0, 2, 11], 9, 444, 12),
+    Packet(50, [10, 1, 2, 3], SERVER, 0, 0, 11),
+    Packet(17, [10, 1, 2, 3], SERVER, 9, 443, 0),
+];
+
 /// Whether the rules give each packet its answer.
 fn decide(rt: &impl Abort, rules: &RuleSet, packets: &[Packet]) {
     for packet in packets {
@@ -138,12 +168,14 @@ fn lists_of_a_router_decide_as_their_lines_say(rt: HostRuntime) -> Result<(), Fa
     decide(&rt, &numbered, &NUMBERED);
     let grouped = rules_of(&rt, rt.alloc(), GROUPED, b"A", Answers::Line)?;
     decide(&rt, &grouped, &OF_GROUPS);
+    let served = rules_of(&rt, rt.alloc(), SERVED, b"A", Answers::Line)?;
+    decide(&rt, &served, &OF_SERVICES);
     Ok(())
 }
 
 /// Configurations, and the line for which each is refused when the list A is asked for: 0 if it is
 /// read.
-const LISTS: [(&str, u32); 17] = [
+const LISTS: [(&str, u32); 24] = [
     ("ip access-list extended A\n permit tcp any any eq 80\n", 0),
     (
         "ip access-list extended A\n permit tcp any any established\n",
@@ -224,6 +256,55 @@ const LISTS: [(&str, u32); 17] = [
         ip access-list extended A\n \
         permit ip any any\n",
         1,
+    ),
+    (
+        "object-group service N\n \
+        icmp\n\
+        ip access-list extended A\n \
+        permit object-group N any any log\n",
+        0,
+    ),
+    (
+        "object-group service N\n \
+        icmp echo\n\
+        ip access-list extended A\n \
+        permit object-group N any any\n",
+        2,
+    ),
+    (
+        "object-group service N\n \
+        tcp 80\n\
+        ip access-list extended A\n \
+        permit object-group N any any eq 80\n",
+        4,
+    ),
+    (
+        "object-group service N\n \
+        tcp eq 80 443\n\
+        ip access-list extended A\n \
+        permit object-group N any any\n",
+        2,
+    ),
+    (
+        "object-group service N\n \
+        esp 80\n\
+        ip access-list extended A\n \
+        permit object-group N any any\n",
+        2,
+    ),
+    (
+        "object-group service N\n \
+        group-object N\n\
+        ip access-list extended A\n \
+        permit object-group N any any\n",
+        2,
+    ),
+    (
+        "object-group network N\n \
+        any\n\
+        ip access-list extended A\n \
+        permit object-group N any any\n",
+        4,
     ),
 ];
 
