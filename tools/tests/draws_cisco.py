@@ -1,7 +1,5 @@
 # SPDX-License-Identifier: BSD-3-Clause
-"""Lists of Cisco's IOS for the program aclc-lists: extended ones without groups of services, which it
-doesn't read.
-"""
+"""Lists of Cisco's IOS for the program aclc-lists: extended ones."""
 import re
 
 import forms_cisco
@@ -24,11 +22,6 @@ class Walked:
         return forms_cisco.decide(self.text, fields)
 
 
-def without_services(text):
-    """The text with UDP in the place of groups of services in entries."""
-    return re.sub(r"(permit|deny *) object-group SERVICES", r"\1 udp", text)
-
-
 def options(name, data="line"):
     """The options of a list of this name."""
     return options_of("cisco", "router", list=name, family=4, data=data)
@@ -36,7 +29,7 @@ def options(name, data="line"):
 
 def draw(draw):
     """A configuration with the list 101."""
-    lines = without_services(forms_cisco.draw(draw)).split("\n")
+    lines = forms_cisco.draw(draw).split("\n")
     return Drawn(lines, "\n".join, options("101"), Walked, routers.Unknown)
 
 

@@ -2,10 +2,10 @@
 """Lists of iptables, of Cisco's IOS and of nft by the program aclc-lists, beside tools/convert and their own judges.
 
 The program takes what iptables-save prints, and tools/convert also takes what people write, as masks and words in
-another order. Of a configuration the program takes extended lists without groups of services, and knows each line
-before it passes over it. So a list may be one that the program alone refuses. It alone takes a list only where the line
-that the tools refuse is one of another list. It takes a ruleset if what they refuse is a rule that no packet meets, a
-table's own object, or a handle that comes twice.
+another order. Of a configuration the program takes extended lists, and knows each line before it passes over it. So a
+list may be one that the program alone refuses. It alone takes a list only where the line that the tools refuse is one
+of another list. It takes a ruleset if what they refuse is a rule that no packet meets, a table's own object, or a
+handle that comes twice.
 """
 import random
 import tempfile
