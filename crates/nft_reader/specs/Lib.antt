@@ -4,6 +4,7 @@ pub mod Addresses
 pub mod Compared
 pub mod Assumed
 pub mod Chains
+pub mod Counted
 pub mod Known
 pub mod Readings
 pub mod Ruleset
