@@ -1,4 +1,6 @@
+pub mod BoxSteps
 pub mod Counting
+pub mod Elements
 pub mod Steps
 pub mod Views
 pub mod Texts

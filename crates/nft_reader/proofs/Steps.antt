@@ -8,8 +8,9 @@ use Rattle.nft_reader.specs.declared.fault.ObjectKind.{ObjectKind}
 use Rattle.nft_reader.specs.declared.fault.Stop.{Stop}
 use Rattle.nft_reader.specs.declared.fault.Stop.TheVariants as stopped
 use Rattle.nft_reader.specs.Chains.{ListedChain}
-use Rattle.nft_reader.specs.Known.{Known, Question}
-use Rattle.nft_reader.specs.Readings.{◌>>=◌, ReadRule, with_statement, with_statements}
+use Rattle.nft_reader.specs.Known.{Known, Setting}
+use Rattle.nft_reader.specs.Results.{◌>>=◌}
+use Rattle.nft_reader.specs.Readings.{ReadRule, with_statement, with_statements}
 use Rattle.nft_reader.specs.Ruleset.{object_then, with_object, with_objects}
 use Rattle.nft_reader.specs.Stops.{IsToldOf, Refuses, RefusesRule, fault_of}
 use Rattle.nft_reader.specs.Values.{gathered, made_then}
@@ -67,35 +68,35 @@ module _ (known : Known) (reading : ReadRule) where
 
 -- ---- objects
 
-module _ (question : Question) (number : ℕ) (chains : List ListedChain) where
+module _ (setting : Setting) (number : ℕ) (chains : List ListedChain) where
   -- an object, and then those after it
   object_first : (value : Json) (values : List Json) →
-      with_objects question number chains (value ∷ values)
-      ≡ object_then (number + 1) (with_object question chains value)
-      (λ more. with_objects question (number + 1) more values)
+      with_objects setting number chains (value ∷ values)
+      ≡ object_then (number + 1) (with_object setting chains value)
+      (λ more. with_objects setting (number + 1) more values)
   unfolding with_objects
   object_first value values = refl
 
   -- it was read
   pub object_more : (value : Json) (values : List Json) (more : List ListedChain) →
-      with_object question chains value ≡ Ok more →
-      with_objects question number chains (value ∷ values) ≡ with_objects question (number + 1) more values
+      with_object setting chains value ≡ Ok more →
+      with_objects setting number chains (value ∷ values) ≡ with_objects setting (number + 1) more values
   object_more value values more read =
       object_first value values
       ∙ ap (λ (it : Result (List ListedChain) ObjectKind).
-      object_then (number + 1) it (λ next. with_objects question (number + 1) next values)) read
+      object_then (number + 1) it (λ next. with_objects setting (number + 1) next values)) read
 
   -- or its fault is that of the ruleset
   pub object_told : (value : Json) (values : List Json) (stop : Stop) →
-      Refuses (with_object question chains value) stop →
-      IsToldOf (with_objects question number chains (value ∷ values)) (fault_of (number + 1) stop)
+      Refuses (with_object setting chains value) stop →
+      IsToldOf (with_objects setting number chains (value ∷ values)) (fault_of (number + 1) stop)
   object_told value values (stopped.Faulty kind) said =
       object_first value values
       ∙ ap (λ (it : Result (List ListedChain) ObjectKind).
-      object_then (number + 1) it (λ next. with_objects question (number + 1) next values)) said
+      object_then (number + 1) it (λ next. with_objects setting (number + 1) next values)) said
   object_told value values stopped.OutOfMemory said = said
 
   -- none is left
-  pub object_end : with_objects question number chains [] ≡ Ok chains
+  pub object_end : with_objects setting number chains [] ≡ Ok chains
   unfolding with_objects
   object_end = refl

@@ -14,7 +14,7 @@ use Rattle.iptables_reader.specs.Values.{spans_of_address}
 use Rattle.json.specs.Json.{Json}
 use Rattle.json.specs.Find.{as_str}
 use Rattle.nft_reader.specs.Shapes.{items_of, len_of, number_in, only, text_in}
-use Rattle.nft_reader.specs.Values.{elements_of, gathered}
+use Rattle.nft_reader.specs.Values.{bare_element}
 
 -- the number of the address of a value
 abbrev pub address_of_value : Family → Json → Option ℕ
@@ -60,20 +60,19 @@ named_set family name said =
     if bytes_eq name (codes "prefix") then prefix_of family said
     else (if bytes_eq name (codes "range") then range_of family said else None)
 
--- the addresses of an element by its only member, if it has one
+-- the addresses of a value by its only member, if it has one
 abbrev pub set_by : Family → Json → Option (List ℕ × Json) → Option AddressSet
 set_by family value None = plain_set family value
 set_by family value (Some found) = named_set family found.0 found.1
 
--- the addresses of an element
+-- the addresses of a value
 abbrev pub address_set : Family → Json → Option AddressSet
 address_set family value = set_by family value (only value)
 
+-- the addresses of an element's value
+abbrev pub element_set : Family → Json → Option AddressSet
+element_set family element = option_and_then (address_set family) (bare_element element)
+
 -- their spans
 abbrev pub address_list : Family → Json → Option (List AddressSpans)
-address_list family value = option_map (set_spans family []) (address_set family value)
-
--- the spans of the right side of a comparison with addresses
-abbrev pub addresses_of_value : Family → Json → Option (List AddressSpans)
-addresses_of_value family value =
-    option_and_then (gathered (address_list family) []) (elements_of value)
+address_list family element = option_map (set_spans family []) (element_set family element)

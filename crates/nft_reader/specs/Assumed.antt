@@ -18,13 +18,10 @@ use Rattle.nft_reader.specs.declared.compared.Operator.{Operator}
 use Rattle.nft_reader.specs.declared.compared.Operator.TheVariants as operator
 use Rattle.nft_reader.specs.declared.compared.Way.{Way}
 use Rattle.nft_reader.specs.declared.compared.Way.TheVariants as way
+use Rattle.nft_reader.specs.Results.{or_cause}
+use Rattle.nft_reader.specs.Sets.{at_name}
 use Rattle.nft_reader.specs.Shapes.{items_of}
 use Rattle.nft_reader.specs.Values.{elements_of}
-
--- what is known, or else a cause
-abbrev pub or_cause : {A : Type 0} → RuleKind → Option A → Result A RuleKind
-or_cause why None = Err why
-or_cause why (Some known) = Ok known
 
 -- a text passes a test, if there is one
 abbrev pub text_is : (List ℕ → Bool) → Option (List ℕ) → Bool
@@ -47,14 +44,10 @@ abbrev pub may_be_named : Naming → List ℕ → Bool
 may_be_named naming.Name word = not (has_byte 92 word)
 may_be_named naming.Index word = not (has_byte star word)
 
--- `@` stands before the name of a set
-abbrev pub at_sign : ℕ
-at_sign = 64
-
--- a word names interfaces; one with `@` may be the name of a set
+-- a word names interfaces, and isn't that of a set
 abbrev pub is_interface_word : Naming → List ℕ → Bool
 is_interface_word manner word =
-    is_interface star word && not (has_byte at_sign word) && may_be_named manner word
+    not (is_some (at_name word)) && is_interface star word && may_be_named manner word
 
 -- a value names interfaces
 abbrev pub is_interface_value : Naming → Json → Bool

@@ -1,11 +1,11 @@
 -- What a comparison compares (libnftables-json(5), "match", "payload" and "meta"). The packets are
 -- of one family: what is in the header of the other none of them has.
-use Rattle.std.specs.Prelude.{ℕ, ◌==◌, Bool, true, false, if◌then◌else◌, codes, List}
-use Rattle.std.specs.Prelude.{Option, Some, None, option_and_then}
+use Rattle.std.specs.Prelude.{ℕ, ◌==◌, Bool, true, false, not, if◌then◌else◌, codes}
+use Rattle.std.specs.Prelude.{List, Option, Some, None, option_and_then}
 use Rattle.std.specs.Option.{option_map}
 use Rattle.std.specs.Str.{bytes_eq}
 use Rattle.json.specs.Json.{Json}
-use Rattle.json.specs.Find.{get}
+use Rattle.json.specs.Find.{as_str, get}
 use Rattle.field_defs.specs.declared.field.Family.{Family}
 use Rattle.field_defs.specs.declared.field.Family.TheVariants as family
 use Rattle.iptables_reader.specs.declared.packets.End.TheVariants as end
@@ -118,6 +118,10 @@ operator_named name =
     else (if bytes_eq name (codes "in") then Some operator.In
     else (if bytes_eq name (codes "!") then Some operator.NotIn else None)))
 
+-- the operator that a comparison has
+abbrev pub operator_of : Json → Option Operator
+operator_of said = option_and_then operator_named (text_in (codes "op") said)
+
 -- whether a comparison for equality is turned
 abbrev pub is_negated : Operator → Option Bool
 is_negated operator.Equal = Some false
@@ -138,6 +142,15 @@ is_ip4 name =
     if bytes_eq name (codes "ipv4") then Some true
     else (if bytes_eq name (codes "ipv6") then Some false else None)
 
+-- it is IPv4, if a family is
+abbrev pub is_of : Family → Bool → Bool
+is_of family.Ip4 is4 = is4
+is_of family.Ip6 is4 = not is4
+
+-- the family of packets is the one that a value names
+abbrev pub family_met : Family → Json → Option Bool
+family_met family value = option_map (is_of family) (option_and_then is_ip4 (as_str value))
+
 -- the sides of a comparison
 pub record MatchSides : Type 0 where
   pub side : Left
@@ -151,6 +164,6 @@ sides_of family said =
     then option_and_then (λ side. option_and_then (λ compares.
     option_map (λ right. record { side = side; operator = compares; right = right })
     (get (codes "right") said))
-    (option_and_then operator_named (text_in (codes "op") said)))
+    (operator_of said))
     (option_and_then (left_of family) (get (codes "left") said))
     else None

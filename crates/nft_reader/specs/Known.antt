@@ -1,9 +1,11 @@
 -- What is asked of a ruleset, and what is known where a rule is read.
-use Rattle.std.specs.Prelude.{ℕ, List}
+use Rattle.std.specs.Prelude.{ℕ, List, map}
 use Rattle.nft_reader.specs.declared.known.Asked.{Asked}
 use Rattle.nft_reader.specs.declared.known.Known as told
 use Rattle.nft_reader.specs.declared.known.Question as put
+use Rattle.nft_reader.specs.declared.known.Setting as laid
 use Rattle.nft_reader.specs.Chains.{ListedChain, Names, names_of}
+use Rattle.nft_reader.specs.Sets.{ListedSet, set_of}
 
 -- what is asked, and what is assumed of packets
 pub record Question : Type 0 where
@@ -14,9 +16,22 @@ pub record Question : Type 0 where
 abbrev pub question_of : put.Question → Question
 question_of question = record { asked = question.asked; assumed = question.assumed.now }
 
--- the question, the chains that stand before a rule, and the chain of the rule
+-- the question, and the sets of the ruleset
+pub record Setting : Type 0 where
+  pub question : Question
+  pub sets : List ListedSet
+
+-- the same where objects are read
+abbrev pub setting_of : laid.Setting → Setting
+setting_of setting = record {
+  question = question_of setting.question;
+  sets = map set_of setting.sets.now;
+}
+
+-- the question, the sets, the chains that stand before a rule, and the chain of the rule
 pub record Known : Type 0 where
   pub question : Question
+  pub sets : List ListedSet
   pub chains : List ListedChain
   pub owner : Names
 
@@ -24,6 +39,7 @@ pub record Known : Type 0 where
 abbrev pub known_of : told.Known → Known
 known_of known = record {
   question = question_of known.question;
+  sets = map set_of known.sets.now;
   chains = known.chains.now;
   owner = names_of known.owner;
 }

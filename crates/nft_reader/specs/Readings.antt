@@ -2,44 +2,39 @@
 -- packets it catches, and its last statement what becomes of them. A statement that isn't known here
 -- isn't passed over: the rule then isn't said.
 use Rattle.std.specs.Prelude.{ℕ, ◌==◌, Bool, true, false, is_some, not, if◌then◌else◌, codes}
-use Rattle.std.specs.Prelude.{List, [], ◌∷◌, map, Option, Some, None, option_and_then, Result, Ok, Err}
+use Rattle.std.specs.Prelude.{List, [], ◌∷◌, Option, Some, None, option_and_then, Result, Ok, Err}
 use Rattle.std.specs.Borrow.{Bor}
-use Rattle.std.specs.Option.{option_map}
 use Rattle.std.specs.Str.{bytes_eq}
 use Rattle.json.specs.Json.{Json}
-use Rattle.json.specs.Find.{as_str}
-use Rattle.list_chains.specs.declared.span.Span.{Span}
+use Rattle.json.specs.Find.{get}
 use Rattle.nft_reader.specs.declared.fault.RuleKind.{RuleKind}
 use Rattle.nft_reader.specs.declared.fault.RuleKind.TheVariants as kind
 use Rattle.field_defs.specs.declared.field.Family.{Family}
 use Rattle.field_defs.specs.declared.field.Family.TheVariants as family
-use Rattle.iptables_reader.specs.declared.packets.End.{End}
-use Rattle.iptables_reader.specs.declared.packets.Field.{Field}
-use Rattle.iptables_reader.specs.declared.packets.Field.TheVariants as field
 use Rattle.iptables_reader.specs.declared.packets.Packets.{Packets}
-use Rattle.iptables_reader.specs.declared.values.AddressSpans.{AddressSpans}
-use Rattle.iptables_reader.specs.Packets.{CaughtBoxes, all_caught, all_packets, never, with_boxes}
-use Rattle.iptables_reader.specs.Packets.{with_end, with_span}
+use Rattle.iptables_reader.specs.Packets.{CaughtBoxes, all_caught, never, with_boxes}
 use Rattle.nft_reader.specs.declared.compared.Left.{Left}
 use Rattle.nft_reader.specs.declared.compared.Left.TheVariants as left
 use Rattle.nft_reader.specs.declared.compared.Operator.{Operator}
+use Rattle.nft_reader.specs.declared.compared.Part.{Part}
+use Rattle.nft_reader.specs.declared.compared.Part.TheVariants as part
+use Rattle.nft_reader.specs.declared.sets.Form.{Form}
+use Rattle.nft_reader.specs.declared.sets.Form.TheVariants as form
 use Rattle.nft_reader.specs.declared.reading.Verdict.{Verdict}
 use Rattle.nft_reader.specs.declared.reading.Verdict.TheVariants as verdict
 use Rattle.nft_reader.specs.declared.reading.Act.{Act}
 use Rattle.nft_reader.specs.declared.reading.Act.TheVariants as act
 use Rattle.nft_reader.specs.Chains.{place_of}
-use Rattle.nft_reader.specs.Addresses.{addresses_of_value}
-use Rattle.nft_reader.specs.Assumed.{interface_met, or_cause, state_met, state_values}
-use Rattle.nft_reader.specs.Compared.{MatchSides, is_ip4, is_negated, is_turned, sides_of}
+use Rattle.nft_reader.specs.Assumed.{interface_met, state_met, state_values}
+use Rattle.nft_reader.specs.Boxes.{part_boxes}
+use Rattle.nft_reader.specs.Compared.{MatchSides, family_met, is_negated, is_turned, operator_of}
+use Rattle.nft_reader.specs.Compared.{sides_of}
+use Rattle.nft_reader.specs.Keys.{concat_of, elements_boxes, protocol_packets}
 use Rattle.nft_reader.specs.Known.{Known}
+use Rattle.nft_reader.specs.Results.{◌>>=◌, or_cant}
+use Rattle.nft_reader.specs.Sets.{elements_in}
 use Rattle.nft_reader.specs.Shapes.{len_of, only, text_in}
-use Rattle.nft_reader.specs.Values.{elements_of, first_of, spans_of_value}
-
-infixl 10 ◌>>=◌
--- a value, and then what comes of it, or its fault
-abbrev pub ◌>>=◌ : {A B E : Type 0} → Result A E → (A → Result B E) → Result B E
-(Ok value) >>= following = following value
-(Err fault) >>= following = Err fault
+use Rattle.nft_reader.specs.Values.{elements_of, first_of}
 
 -- what a rule says so far: which packets it catches, why no rule file says it, and what becomes of
 -- the packets
@@ -67,41 +62,41 @@ abbrev pub with_packets : Bool → List Packets → ReadRule → ReadRule
 with_packets negated boxes reading =
     record reading { caught = with_boxes negated boxes reading.caught }
 
--- the boxes of the packets that have a number of one of some spans in a field
-abbrev pub field_boxes : Family → Field → List Span → List Packets
-field_boxes family which spans = map (with_span (all_packets family) which) spans
-
--- the boxes of those that come from some addresses, or go to them
-abbrev pub address_boxes : Family → End → List AddressSpans → List Packets
-address_boxes family which spans = map (with_end (all_packets family) which) spans
-
 -- packets of a protocol
 abbrev pub of_protocol : Family → ℕ → ReadRule → ReadRule
 of_protocol family number reading =
-    with_packets false
-    (field_boxes family field.Protocol (record { low = number; high = number } ∷ [])) reading
+    with_packets false (protocol_packets family number ∷ []) reading
 
 -- none of the packets
 abbrev pub of_none : ReadRule → ReadRule
 of_none reading = record reading { caught = never reading.caught }
 
--- a comparison that boxes of packets meet, if they are known and it is one for equality
-abbrev pub with_found : ReadRule → Option Bool → Option (List Packets) → ReadRule
-with_found reading None boxes = with_cause kind.CantSay reading
-with_found reading (Some negated) None = with_cause kind.CantSay reading
-with_found reading (Some negated) (Some boxes) = with_packets negated boxes reading
+-- a comparison that boxes of packets meet, if they are known
+abbrev pub with_found : ReadRule → Bool → Option (List Packets) → ReadRule
+with_found reading negated None = with_cause kind.CantSay reading
+with_found reading negated (Some boxes) = with_packets negated boxes reading
 
--- a comparison of a field with the right side
-abbrev pub with_value : Family → Field → Operator → Json → ReadRule → ReadRule
-with_value family which compares right reading =
-    with_found reading (is_negated compares)
-    (option_map (field_boxes family which) (spans_of_value which right))
+-- a comparison of a part of the header with some elements, or why they aren't known
+abbrev pub with_these : Family → Part → ReadRule → Bool → Result (List Json) RuleKind → ReadRule
+with_these family which reading negated (Err why) = with_cause why reading
+with_these family which reading negated (Ok elements) =
+    with_found reading negated (part_boxes family which elements)
 
--- a comparison of addresses with the right side
-abbrev pub with_addresses : Family → End → Operator → Json → ReadRule → ReadRule
-with_addresses family which compares right reading =
-    with_found reading (is_negated compares)
-    (option_map (address_boxes family which) (addresses_of_value family right))
+-- the elements that a value has, or those of the set of values that it names
+abbrev pub known_elements : Known → Form → Json → Result (List Json) RuleKind
+known_elements known wanted value = elements_in wanted known.owner known.sets value
+
+-- the same with the right side, if the comparison is one for equality
+abbrev pub with_right : Known → Part → Json → ReadRule → Option Bool → ReadRule
+with_right known which right reading None = with_cause kind.CantSay reading
+with_right known which right reading (Some negated) =
+    with_these known.question.asked.family which reading negated
+    (known_elements known form.Values right)
+
+-- a comparison of a part of the header with the right side
+abbrev pub with_value : Known → Part → Operator → Json → ReadRule → ReadRule
+with_value known which compares right reading =
+    with_right known which right reading (is_negated compares)
 
 -- what is true of all packets or of none, or a cause where that isn't known; it may be turned
 abbrev pub with_met : ReadRule → Option Bool → Result Bool RuleKind → ReadRule
@@ -110,28 +105,19 @@ with_met reading (Some negated) (Err why) = with_cause why reading
 with_met reading (Some negated) (Ok met) =
     if (if negated then not met else met) then reading else of_none reading
 
--- it is IPv4, if a family is
-abbrev pub is_of : Family → Bool → Bool
-is_of family.Ip4 is4 = is4
-is_of family.Ip6 is4 = not is4
-
--- the family of packets is the one that a value names
-abbrev pub family_met : Family → Json → Result Bool RuleKind
-family_met family value =
-    or_cause kind.CantSay (option_map (is_of family) (option_and_then is_ip4 (as_str value)))
-
 -- a comparison by its left side
 abbrev pub with_side : Known → Left → Operator → Json → ReadRule → ReadRule
 with_side known (left.Plain which) compares right reading =
-    with_value known.question.asked.family which compares right reading
+    with_value known (part.Number which) compares right reading
 with_side known (left.Address which) compares right reading =
-    with_addresses known.question.asked.family which compares right reading
+    with_value known (part.Address which) compares right reading
 with_side known (left.Ports number which) compares right reading =
-    with_value known.question.asked.family which compares right
+    with_value known (part.Number which) compares right
     (of_protocol known.question.asked.family number reading)
 with_side known left.OtherFamily compares right reading = of_none reading
 with_side known left.Nfproto compares right reading =
-    with_met reading (is_negated compares) (family_met known.question.asked.family right)
+    with_met reading (is_negated compares)
+    (or_cant (family_met known.question.asked.family right))
 with_side known (left.Interface which manner) compares right reading =
     with_met reading (is_negated compares)
     (interface_met known.question.assumed which manner (elements_of right))
@@ -144,10 +130,49 @@ abbrev pub with_sides : Known → ReadRule → Option MatchSides → ReadRule
 with_sides known reading None = with_cause kind.CantSay reading
 with_sides known reading (Some sides) = with_side known sides.side sides.operator sides.right reading
 
+-- several things together, as the left side of a comparison
+abbrev pub together_by : Json → Option (List Json) → Option Json
+together_by key None = None
+together_by key (Some keys) = Some key
+
+abbrev pub together_in : Json → Option Json
+together_in said = option_and_then (λ key. together_by key (concat_of key)) (get (codes "left") said)
+
+-- the packets of which they are an element of the right side
+abbrev pub elements_together : Known → Json → Json → Result (List Packets) RuleKind
+elements_together known key right =
+    known_elements known form.Values right
+    >>= elements_boxes known.question.asked.family key []
+
+-- that they are others isn't said
+abbrev pub if_equal : Option Bool → Result (List Packets) RuleKind → Result (List Packets) RuleKind
+if_equal None boxes = Err kind.CantSay
+if_equal (Some true) boxes = Err kind.CantSay
+if_equal (Some false) boxes = boxes
+
+-- the packets of a comparison of them, which is one for equality
+abbrev pub boxes_together : Known → Json → Json → Result (List Packets) RuleKind
+boxes_together known said key =
+    if len_of said == 3
+    then if_equal (option_and_then is_negated (operator_of said))
+    (or_cant (get (codes "right") said) >>= elements_together known key)
+    else Err kind.CantSay
+
+-- a comparison that has these boxes, or why they aren't known
+abbrev pub with_together : ReadRule → Result (List Packets) RuleKind → ReadRule
+with_together reading (Err why) = with_cause why reading
+with_together reading (Ok boxes) = with_packets false boxes reading
+
+-- a comparison, of one thing or of several together
+abbrev pub with_compared : Known → Json → ReadRule → Option Json → ReadRule
+with_compared known said reading None =
+    with_sides known reading (sides_of known.question.asked.family said)
+with_compared known said reading (Some key) =
+    with_together reading (boxes_together known said key)
+
 -- a comparison
 abbrev pub with_match : Known → Json → ReadRule → ReadRule
-with_match known said reading =
-    with_sides known reading (sides_of known.question.asked.family said)
+with_match known said reading = with_compared known said reading (together_in said)
 
 -- ---- what becomes of packets
 

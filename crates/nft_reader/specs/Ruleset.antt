@@ -28,8 +28,10 @@ use Rattle.nft_reader.specs.declared.known.Answers.TheVariants as answers
 use Rattle.nft_reader.specs.declared.known.Asked.{Asked}
 use Rattle.nft_reader.specs.declared.ruleset.TheConstants.{MAX_RULESET}
 use Rattle.nft_reader.specs.Chains.{ListedChain, Names, no_chain, place_of}
-use Rattle.nft_reader.specs.Known.{Known, Question}
-use Rattle.nft_reader.specs.Readings.{◌>>=◌, ReadRule, no_reading, with_statements}
+use Rattle.nft_reader.specs.Known.{Question, Setting}
+use Rattle.nft_reader.specs.Results.{◌>>=◌}
+use Rattle.nft_reader.specs.Readings.{ReadRule, no_reading, with_statements}
+use Rattle.nft_reader.specs.Sets.{sets_in}
 use Rattle.nft_reader.specs.Shapes.{items_in, items_of, len_of, number_in, only, text_in}
 
 -- how many bytes a ruleset may have
@@ -156,25 +158,30 @@ parts_of_rule family said =
     Ok (record { owner = owner; handle = handle; statements = statements })
 
 -- the chains with a rule of one of them
-abbrev pub with_rule_at : Question → RuleParts → List ListedChain → ℕ → List ListedChain
-with_rule_at question parts chains place =
+abbrev pub with_rule_at : Setting → RuleParts → List ListedChain → ℕ → List ListedChain
+with_rule_at setting parts chains place =
     slice_set chains place
-    (with_read question.asked parts.handle
-    (with_statements (record { question = question; chains = chains; owner = parts.owner })
-    (no_reading question.asked.family) parts.statements)
+    (with_read setting.question.asked parts.handle
+    (with_statements (record {
+      question = setting.question;
+      sets = setting.sets;
+      chains = chains;
+      owner = parts.owner;
+    })
+    (no_reading setting.question.asked.family) parts.statements)
     (slice_index_or chains place no_chain))
 
 -- the chains with a rule, whose chain stands before it
-abbrev pub with_parts : Question → List ListedChain → RuleParts →
+abbrev pub with_parts : Setting → List ListedChain → RuleParts →
     Result (List ListedChain) ObjectKind
-with_parts question chains parts =
+with_parts setting chains parts =
     or_fault object.NoChain (place_of false parts.owner chains) >>= λ place.
-    Ok (with_rule_at question parts chains place)
+    Ok (with_rule_at setting parts chains place)
 
 -- the chains with a rule of a family
-abbrev pub with_rule : Question → List ListedChain → List ℕ → Json →
+abbrev pub with_rule : Setting → List ListedChain → List ℕ → Json →
     Result (List ListedChain) ObjectKind
-with_rule question chains family said = parts_of_rule family said >>= with_parts question chains
+with_rule setting chains family said = parts_of_rule family said >>= with_parts setting chains
 
 -- ---- chains
 
@@ -274,30 +281,31 @@ with_chain_object question chains said =
     if is_read question.asked.family name then with_chain question chains name said else Ok chains
 
 -- a rule of such a family
-abbrev pub with_rule_object : Question → List ListedChain → Json →
+abbrev pub with_rule_object : Setting → List ListedChain → Json →
     Result (List ListedChain) ObjectKind
-with_rule_object question chains said =
+with_rule_object setting chains said =
     or_fault object.NoFamily (text_in (codes "family") said) >>= λ name.
-    if is_read question.asked.family name then with_rule question chains name said else Ok chains
+    if is_read setting.question.asked.family name then with_rule setting chains name said
+    else Ok chains
 
 -- an object by its name
-abbrev pub with_named_object : Question → List ListedChain → List ℕ → Json →
+abbrev pub with_named_object : Setting → List ListedChain → List ℕ → Json →
     Result (List ListedChain) ObjectKind
-with_named_object question chains name said =
-    if bytes_eq name (codes "rule") then with_rule_object question chains said
-    else (if bytes_eq name (codes "chain") then with_chain_object question chains said
+with_named_object setting chains name said =
+    if bytes_eq name (codes "rule") then with_rule_object setting chains said
+    else (if bytes_eq name (codes "chain") then with_chain_object setting.question chains said
     else (if bytes_eq name (codes "table") then with_table chains said
     else (if is_silent name then Ok chains else Err object.UnknownObject)))
 
 -- an object by its only member, if it has one
-abbrev pub with_only_object : Question → List ListedChain → Option (List ℕ × Json) →
+abbrev pub with_only_object : Setting → List ListedChain → Option (List ℕ × Json) →
     Result (List ListedChain) ObjectKind
-with_only_object question chains None = Err object.UnknownObject
-with_only_object question chains (Some found) = with_named_object question chains found.0 found.1
+with_only_object setting chains None = Err object.UnknownObject
+with_only_object setting chains (Some found) = with_named_object setting chains found.0 found.1
 
 -- an object
-abbrev pub with_object : Question → List ListedChain → Json → Result (List ListedChain) ObjectKind
-with_object question chains value = with_only_object question chains (only value)
+abbrev pub with_object : Setting → List ListedChain → Json → Result (List ListedChain) ObjectKind
+with_object setting chains value = with_only_object setting chains (only value)
 
 -- the fault of an object, or what the objects after it make
 abbrev pub object_then : ℕ → Result (List ListedChain) ObjectKind →
@@ -307,12 +315,16 @@ object_then number (Err why) following = Err (record { object = number; kind = w
 object_then number (Ok chains) following = following chains
 
 -- what objects make of the chains after so many objects: the first fault is that of the ruleset
-unfoldable pub with_objects : Question → ℕ → List ListedChain → List Json →
+unfoldable pub with_objects : Setting → ℕ → List ListedChain → List Json →
     Result (List ListedChain) ObjectFault
-with_objects question number chains [] = Ok chains
-with_objects question number chains (value ∷ values) =
-    object_then (number + 1) (with_object question chains value)
-    (λ more. with_objects question (number + 1) more values)
+with_objects setting number chains [] = Ok chains
+with_objects setting number chains (value ∷ values) =
+    object_then (number + 1) (with_object setting chains value)
+    (λ more. with_objects setting (number + 1) more values)
+
+-- the question and the sets of the objects
+abbrev pub set_in : List Json → Question → Setting
+set_in objects question = record { question = question; sets = sets_in objects objects }
 
 -- a fault of the whole file
 abbrev pub whole_fault : ObjectKind → ObjectFault
@@ -329,7 +341,7 @@ objects_of value = option_and_then (λ found. listed_objects found.0 found.1) (o
 -- the chains of objects
 abbrev pub chains_of_objects : Question → Option (List Json) → Result (List ListedChain) ObjectFault
 chains_of_objects question None = Err (whole_fault object.NoList)
-chains_of_objects question (Some objects) = with_objects question 0 [] objects
+chains_of_objects question (Some objects) = with_objects (set_in objects question) 0 [] objects
 
 -- the chains of a text of JSON
 abbrev pub chains_of_document : Question → Option Json → Result (List ListedChain) ObjectFault

@@ -296,6 +296,13 @@ a_starred_name : said_under (codes "out=eth0")
 unfolding json_on_literals with_statements with_objects
 a_starred_name = refl
 
+-- iifname @ours accept
+interfaces_of_a_set : said_under (codes "in=@ours")
+    (of_interface (codes "\"==\"") (codes "\"iifname\"") (codes "\"@ours\""))
+    ≡ unsaid_by kind.CantSay
+unfolding json_on_literals with_statements with_objects
+interfaces_of_a_set = refl
+
 -- queue to 0
 a_queue : said
     (codes "{\"queue\": {\"num\": 0}}")
@@ -303,13 +310,13 @@ a_queue : said
 unfolding json_on_literals with_statements with_objects gathered digits
 a_queue = refl
 
--- ip saddr @blocked drop
-a_set_of_the_ruleset : said
+-- ip saddr @blocked drop, without the set
+a_set_that_isnt_there : said
     (codes "{\"match\": {\"op\": \"==\", \"left\": {\"payload\": {\"protocol\": \"ip\", \"field\": "
     ++ codes "\"saddr\"}}, \"right\": \"@blocked\"}}, {\"drop\": null}")
-    ≡ unsaid_by kind.CantSay
+    ≡ unsaid_by kind.NoSet
 unfolding json_on_literals with_statements with_objects gathered digits
-a_set_of_the_ruleset = refl
+a_set_that_isnt_there = refl
 
 -- an object that isn't known is refused, by its number
 a_command : read (codes "{\"nftables\": [{\"metainfo\": {}}, {\"add\": {}}]}")

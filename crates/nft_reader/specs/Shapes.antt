@@ -1,7 +1,7 @@
 -- Looking into a value of JSON (RFC 8259): the members of an object, one by one or how many, and
 -- the items of an array. An object of which each member is asked for by its name, and that has no
 -- more members than these, has nothing that is passed over.
-use Rattle.std.specs.Prelude.{ℕ, suc, ◌&&◌, nat_le, if◌then◌else◌, List, [], ◌∷◌}
+use Rattle.std.specs.Prelude.{is_some, ℕ, suc, ◌&&◌, nat_le, if◌then◌else◌, List, [], ◌∷◌}
 use Rattle.std.specs.Prelude.{Option, Some, None, option_and_then}
 use Rattle.std.specs.Option.{option_map}
 use Rattle.text_scan.specs.Digits.{are_digits, place_value}
@@ -48,6 +48,10 @@ items_in key value = option_and_then items_of (get key value)
 -- the text of a member that is a string
 abbrev pub text_in : List ℕ → Json → Option (List ℕ)
 text_in key value = option_and_then as_str (get key value)
+
+-- a member of a name is there, by its number
+abbrev pub present : List ℕ → Json → ℕ
+present key value = if is_some (get key value) then 1 else 0
 
 -- the number that digits spell, at most so great
 abbrev pub decimal_of : ℕ → List ℕ → Option ℕ

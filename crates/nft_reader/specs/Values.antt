@@ -1,15 +1,15 @@
 -- What the right side of a comparison spells (libnftables-json(5), "EXPRESSIONS"): a number or a
 -- name, a range, or an anonymous set of these. Numbers of ports are decimal.
-use Rattle.std.specs.Prelude.{ℕ, nat_le, if◌then◌else◌, codes}
+use Rattle.std.specs.Prelude.{ℕ, ◌+◌, ◌==◌, nat_le, if◌then◌else◌, codes}
 use Rattle.std.specs.Prelude.{List, [], ◌∷◌, ◌++◌, Option, Some, None, option_and_then}
 use Rattle.std.specs.Option.{option_map}
 use Rattle.std.specs.Str.{bytes_eq}
 use Rattle.json.specs.Json.{Json}
-use Rattle.json.specs.Find.{as_str}
+use Rattle.json.specs.Find.{as_str, get}
 use Rattle.list_chains.specs.declared.span.Span.{Span}
 use Rattle.iptables_reader.specs.declared.packets.Field.{Field}
 use Rattle.iptables_reader.specs.declared.packets.Field.TheVariants as field
-use Rattle.nft_reader.specs.Shapes.{items_of, number_of, only}
+use Rattle.nft_reader.specs.Shapes.{items_of, len_of, number_of, only, present}
 
 -- ---- numbers
 
@@ -92,6 +92,25 @@ span_of which value = span_by which value (only value)
 
 -- ---- sets
 
+-- how many members of an element say nothing of packets
+abbrev pub quiet_members : Json → ℕ
+quiet_members said = present (codes "counter") said + present (codes "comment") said
+
+-- the value of an element that has other members
+abbrev pub bare_said : Json → Option Json
+bare_said said =
+    if len_of said == 1 + quiet_members said then get (codes "val") said else None
+
+-- the value of an element by its only member, if it has one
+abbrev pub bare_by : Json → Option (List ℕ × Json) → Option Json
+bare_by value None = Some value
+bare_by value (Some found) =
+    if bytes_eq found.0 (codes "elem") then bare_said found.1 else Some value
+
+-- the value of an element
+abbrev pub bare_element : Json → Option Json
+bare_element value = bare_by value (only value)
+
 -- what an element makes, and then what comes of it
 abbrev pub made_then : {A : Type 0} → Option (List A) → (List A → Option (List A)) → Option (List A)
 made_then None following = None
@@ -114,11 +133,10 @@ elements_by value (Some found) =
 abbrev pub elements_of : Json → Option (List Json)
 elements_of value = elements_by value (only value)
 
--- the span of an element, as a list
-abbrev pub span_list : Field → Json → Option (List Span)
-span_list which value = option_map (λ span. span ∷ []) (span_of which value)
+-- the span of an element's value
+abbrev pub element_span : Field → Json → Option Span
+element_span which element = option_and_then (span_of which) (bare_element element)
 
--- the spans of the right side of a comparison with a field
-abbrev pub spans_of_value : Field → Json → Option (List Span)
-spans_of_value which value =
-    option_and_then (gathered (span_list which) []) (elements_of value)
+-- the same as a list
+abbrev pub span_list : Field → Json → Option (List Span)
+span_list which element = option_map (λ span. span ∷ []) (element_span which element)

@@ -4,12 +4,12 @@
 ghost use Rattle.std.specs.Prelude.{◌≡◌, [], map, Some, None, IfOk, MatchOption};
 ghost use Rattle.json.specs.Value.{value_view};
 ghost use Rattle.nft_reader.specs.Addresses.{address_list, address_of_value, address_set};
-ghost use Rattle.nft_reader.specs.Addresses.{addresses_of_value, named_set, plain_set, prefix_of};
+ghost use Rattle.nft_reader.specs.Addresses.{element_set, named_set, plain_set, prefix_of};
 ghost use Rattle.nft_reader.specs.Addresses.{range_of};
 ghost use Rattle.nft_reader.specs.Values.{gathered};
 
 use crate::shapes::{items_of, len_of, number_in, only, text_in};
-use crate::values::elements_of;
+use crate::values::bare_element;
 use field_defs::Family;
 use iptables_reader::{
     AddressSet, AddressSpans, address, address_alone, filled_range, most_bits, put_set,
@@ -71,7 +71,7 @@ fn named_set(family: Family, name: &str, said: &Value<'_>) -> Option<AddressSet>
     }
 }
 
-/// The addresses of an element.
+/// The addresses of a value.
 fn address_set(family: Family, value: &Value<'_>) -> Option<AddressSet>
     ensures { result ≡ address_set family (value_view value.now) }
 {
@@ -81,8 +81,15 @@ fn address_set(family: Family, value: &Value<'_>) -> Option<AddressSet>
     }
 }
 
+/// The addresses of an element's value.
+fn element_set(family: Family, element: &Value<'_>) -> Option<AddressSet>
+    ensures { result ≡ element_set family (value_view element.now) }
+{
+    address_set(family, bare_element(element)?)
+}
+
 /// The spans of the addresses of elements, if each has some.
-fn addresses_of(
+pub(crate) fn addresses_of(
     alloc: Global,
     family: Family,
     values: &[Value<'_>],
@@ -94,26 +101,10 @@ fn addresses_of(
 {
     let mut spans = Vec::new(alloc);
     for value in values {
-        match address_set(family, value) {
+        match element_set(family, value) {
             Some(set) => put_set(&mut spans, family, b"", set)?,
             None => return Ok(None),
         }
     }
     Ok(Some(spans))
-}
-
-/// The spans of the right side of a comparison with addresses, if it is known.
-pub(crate) fn addresses_of_value(
-    alloc: Global,
-    family: Family,
-    value: &Value<'_>,
-) -> Result<Option<Vec<AddressSpans>>, AllocError>
-    ensures { IfOk result (λ found. MatchOption found
-        (addresses_of_value family (value_view value.now) ≡ None)
-        (λ spans. addresses_of_value family (value_view value.now) ≡ Some spans.items)) }
-{
-    match elements_of(value) {
-        Some(values) => addresses_of(alloc, family, values),
-        None => Ok(None),
-    }
 }

@@ -11,6 +11,7 @@ ghost use Rattle.nft_reader.specs.Values.{elements_of};
 
 use crate::compared::{Naming, Operator, Way};
 use crate::fault::RuleKind;
+use crate::sets::at_name;
 use crate::shapes::items_of;
 use crate::values::elements_of;
 use iptables_reader::{assumed_state, is_interface, meets_interface, state_named, value_in};
@@ -33,11 +34,13 @@ fn may_be_named(naming: Naming, word: &[u8]) -> bool
     }
 }
 
-/// Whether a word names interfaces. One with `@` may be the name of a set.
-fn is_interface_word(naming: Naming, word: &[u8]) -> bool
+/// Whether a word names interfaces, and isn't that of a set.
+fn is_interface_word(naming: Naming, word: &str) -> bool
     ensures { result ≡ is_interface_word naming word.now }
 {
-    is_interface(STAR, word) && !word.contains(&AT) && may_be_named(naming, word)
+    at_name(word).is_none()
+        && is_interface(STAR, word.as_bytes())
+        && may_be_named(naming, word.as_bytes())
 }
 
 /// Whether a value names interfaces.
@@ -45,7 +48,7 @@ fn is_interface_value(naming: Naming, value: &Value<'_>) -> bool
     ensures { result ≡ is_interface_value naming (value_view value.now) }
 {
     match value.as_str() {
-        Some(word) => is_interface_word(naming, word.as_bytes()),
+        Some(word) => is_interface_word(naming, word),
         None => false,
     }
 }

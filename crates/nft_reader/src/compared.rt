@@ -4,7 +4,8 @@ ghost use Rattle.std.specs.Prelude.{◌≡◌, Some, None, MatchOption};
 ghost use Rattle.json.specs.Value.{value_view};
 ghost use Rattle.nft_reader.specs.Compared.{address_field, connection_key, connection_of};
 ghost use Rattle.nft_reader.specs.Compared.{interface_key, ip4_field, ip4_payload, ip6_payload};
-ghost use Rattle.nft_reader.specs.Compared.{is_ip4, is_negated, is_turned, left_named, left_of};
+ghost use Rattle.nft_reader.specs.Compared.{family_met, is_ip4, is_negated, is_of, is_turned};
+ghost use Rattle.nft_reader.specs.Compared.{left_named, left_of, operator_of};
 ghost use Rattle.nft_reader.specs.Compared.{meta_key, meta_of, payload_field, payload_of};
 ghost use Rattle.nft_reader.specs.Compared.{operator_named, port_field, ports_of, sides_of};
 
@@ -31,6 +32,13 @@ pub(crate) enum Left {
     Interface(Way, Naming),
     /// The state of the connection.
     State,
+}
+
+/// A part of the header that has one of some elements.
+#[derive(Clone, Copy)]
+pub(crate) enum Part {
+    Number(Field),
+    Address(End),
 }
 
 /// Which interface of packets: the one that they come by, or that they leave by.
@@ -218,7 +226,7 @@ fn left_named(family: Family, name: &str, said: &Value<'_>) -> Option<Left>
 }
 
 /// The left side.
-fn left_of(family: Family, value: &Value<'_>) -> Option<Left>
+pub(crate) fn left_of(family: Family, value: &Value<'_>) -> Option<Left>
     ensures { result ≡ left_of family (value_view value.now) }
 {
     let (name, said) = only(value)?;
@@ -236,6 +244,13 @@ fn operator_named(name: &str) -> Option<Operator>
         "!" => Some(Operator::NotIn),
         _ => None,
     }
+}
+
+/// The operator that a comparison has.
+pub(crate) fn operator_of(said: &Value<'_>) -> Option<Operator>
+    ensures { result ≡ operator_of (value_view said.now) }
+{
+    operator_named(text_in("op", said)?)
 }
 
 /// Whether a comparison for equality is turned.
@@ -260,7 +275,7 @@ pub(crate) fn is_turned(operator: Operator) -> bool
 }
 
 /// Whether a family of packets is IPv4.
-pub(crate) fn is_ip4(name: &str) -> Option<bool>
+fn is_ip4(name: &str) -> Option<bool>
     ensures { result ≡ is_ip4 name.now }
 {
     match name {
@@ -268,6 +283,23 @@ pub(crate) fn is_ip4(name: &str) -> Option<bool>
         "ipv6" => Some(false),
         _ => None,
     }
+}
+
+/// Whether it is IPv4, if the family is.
+fn is_of(family: Family, is_ip4: bool) -> bool
+    ensures { result ≡ is_of family is_ip4 }
+{
+    match family {
+        Family::Ip4 => is_ip4,
+        Family::Ip6 => !is_ip4,
+    }
+}
+
+/// Whether the family of packets is the one that a value names.
+pub(crate) fn family_met(family: Family, value: &Value<'_>) -> Option<bool>
+    ensures { result ≡ family_met family (value_view value.now) }
+{
+    Some(is_of(family, is_ip4(value.as_str()?)?))
 }
 
 /// Both sides of a comparison, and its operator.
@@ -284,7 +316,7 @@ pub(crate) fn sides_of<'v, 'a>(family: Family, said: &'v Value<'a>) -> Option<Si
         return None;
     }
     let side = left_of(family, said.get("left")?)?;
-    let operator = operator_named(text_in("op", said)?)?;
+    let operator = operator_of(said)?;
     Some(Sides {
         side,
         operator,

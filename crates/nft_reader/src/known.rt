@@ -1,7 +1,17 @@
 //! What is asked of a ruleset, and what is known where a rule is read.
 
-use crate::chain::{NftChain, Owner};
+ghost use Rattle.std.specs.Prelude.{◌≡◌, MatchResult, Ok};
+ghost use Rattle.json.specs.Value.{value_view};
+ghost use Rattle.nft_reader.specs.Known.{known_of};
+ghost use Rattle.nft_reader.specs.Readings.{led_place, target_of};
+ghost use Rattle.nft_reader.specs.Stops.{RefusesRule};
+
+use crate::chain::{NftChain, Owner, place_of};
+use crate::fault::{RuleKind, RuleStop};
+use crate::sets::NamedSet;
+use crate::shapes::{len_of, text_in};
 use field_defs::Family;
+use json::Value;
 
 /// What the answer of a rule is.
 #[derive(Clone, Copy)]
@@ -28,10 +38,43 @@ pub(crate) struct Question<'k> {
     pub(crate) assumed: &'k [u8],
 }
 
-/// What is known where a rule is read: the question, the chains before the rule, and its own one.
+/// What is known where objects are read: the question, and the sets of the ruleset.
 #[derive(Clone, Copy)]
-pub(crate) struct Known<'k> {
+pub(crate) struct Setting<'k, 's, 'a> {
     pub(crate) question: Question<'k>,
+    pub(crate) sets: &'k [NamedSet<'s, 'a>],
+}
+
+/// What is known where a rule is read: the question, the sets of the ruleset, the chains before the
+/// rule, and its own one.
+#[derive(Clone, Copy)]
+pub(crate) struct Known<'k, 's, 'a> {
+    pub(crate) question: Question<'k>,
+    pub(crate) sets: &'k [NamedSet<'s, 'a>],
     pub(crate) chains: &'k [NftChain],
     pub(crate) owner: Owner<'k>,
+}
+
+/// The place of the chain of the same table that a jump names.
+pub(crate) fn led_place(known: Known<'_, '_, '_>, said: &Value<'_>) -> Result<usize, RuleStop>
+    ensures { MatchResult result
+        (λ place. led_place (known_of known.entry) (target_of (value_view said.now))
+        ≡ Ok place)
+        (RefusesRule
+        (led_place (known_of known.entry) (target_of (value_view said.now)))) }
+{
+    if len_of(said) != 1 {
+        return Err(RuleStop::Unsaid(RuleKind::BadStatement));
+    }
+    let Some(name) = text_in("target", said) else {
+        return Err(RuleStop::Unsaid(RuleKind::BadStatement));
+    };
+    let target = Owner {
+        name,
+        ..known.owner
+    };
+    match place_of(known.chains, target, true) {
+        Some(place) => Ok(place),
+        None => Err(RuleStop::Unsaid(RuleKind::NoTarget)),
+    }
 }

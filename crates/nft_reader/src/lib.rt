@@ -11,12 +11,15 @@
 //! | `boxes` | boxes of the packets that a comparison is true of |
 //! | `compared` | its left side: fields of headers, and what is known beside them |
 //! | `assumed` | comparisons with what is assumed of packets |
+//! | `sets` | named sets of a ruleset |
+//! | `keys`, `together` | several things that are compared together |
 //! | `reading` | a rule, statement by statement |
 //! | `known` | what is asked, and what is known where a rule is read |
 //! | `chain` | a chain: its name, its policy and its rules |
 //! | `parts` | what the objects of chains and rules say |
 //! | `ruleset` | a ruleset, object by object, and its chains |
 //! | `fault` | why objects aren't read, and rules aren't said |
+//! | `laws` | what members that are counted tell |
 //!
 //! Source: the manual pages nft(8) and libnftables-json(5).
 #![tactic(auto)]
@@ -27,12 +30,15 @@ mod boxes;
 mod chain;
 mod compared;
 mod fault;
+mod keys;
 mod known;
 mod laws;
 mod parts;
 mod reading;
 mod ruleset;
+mod sets;
 mod shapes;
+mod together;
 mod values;
 
 pub use chain::{NftChain, chains_alone, start_of};

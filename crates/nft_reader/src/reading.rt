@@ -3,23 +3,22 @@
 ghost use Rattle.std.specs.Prelude.{◌≡◌, map, MatchResult, Ok};
 ghost use Rattle.json.specs.Value.{value_view};
 ghost use Rattle.nft_reader.specs.Known.{known_of};
-ghost use Rattle.nft_reader.specs.Readings.{family_met, is_of, led_place, no_reading, target_of};
-ghost use Rattle.nft_reader.specs.Readings.{with_statements};
+ghost use Rattle.nft_reader.specs.Readings.{no_reading, with_statements};
 ghost use Rattle.nft_reader.specs.Stops.{RefusesRule};
 
-use crate::addresses::addresses_of_value;
 use crate::assumed::{interface_met, state_met};
-use crate::boxes::{address_boxes, field_boxes};
-use crate::chain::{Owner, place_of};
-use crate::compared::{Left, Operator, Sides, is_ip4, is_negated, is_turned, sides_of};
+use crate::boxes::part_boxes;
+use crate::compared::{Left, Operator, Part, Sides, family_met, is_negated, is_turned, sides_of};
 use crate::fault::{RuleKind, RuleStop};
-use crate::known::{Known, Question};
+use crate::keys::protocol_packets;
+use crate::known::{Known, Question, led_place};
+use crate::sets::{Form, named_elements, named_in};
 use crate::shapes::{len_of, only, text_in};
-use crate::values::spans_of_value;
+use crate::together::{boxes_together, together_in};
+use crate::values::elements_of;
 use field_defs::Family;
-use iptables_reader::{Caught, End, Field, Packets};
+use iptables_reader::{Caught, Packets};
 use json::Value;
-use list_chains::Span;
 use std::alloc::{AllocError, Global};
 use std::marker::Model;
 
@@ -65,11 +64,15 @@ impl Model for Reading {
 const TCP: u64 = 6;
 
 impl Reading {
-    ghost use Rattle.std.specs.Prelude.{◌≡◌, ◌∷◌, [], map, IfOk, IfErr, OnOk, Ok};
+    ghost use Rattle.std.specs.Prelude.{◌≡◌, map, Some, IfOk, IfErr, OnOk, Ok};
     ghost use Rattle.json.specs.Value.{value_view};
     ghost use Rattle.nft_reader.specs.Known.{known_of};
+    ghost use Rattle.nft_reader.specs.Compared.{sides_of};
     ghost use Rattle.nft_reader.specs.Readings as readings;
     ghost use Rattle.nft_reader.specs.Stops.{RefusesRule};
+    ghost use Rattle.nft_reader.specs.Results.{or_cant};
+    ghost use Rattle.nft_reader.specs.Boxes.{part_boxes};
+    ghost use Rattle.nft_reader.specs.Values.{elements_of};
 
     /// Nothing was read of a rule for packets of the family.
     pub(crate) fn new(alloc: Global, family: Family) -> Result<Reading, AllocError>
@@ -114,12 +117,7 @@ impl Reading {
     ) -> Result<(), AllocError>
         ensures { OnOk result (self.new ≡ readings.of_protocol family number self.old) }
     {
-        let span = Span {
-            low: number,
-            high: number,
-        };
-        let boxes = field_boxes(alloc, family, Field::Protocol, &[span])?;
-        self.take(alloc, false, &boxes)
+        self.take(alloc, false, &[protocol_packets(family, number)])
     }
 
     /// None of the packets.
@@ -149,27 +147,20 @@ impl Reading {
         }
     }
 
-    /// A comparison of addresses with the right side.
-    fn add_addresses(
+    /// A comparison of a part of the header with some elements.
+    fn add_elements(
         &mut self,
         alloc: Global,
         family: Family,
-        end: End,
-        operator: Operator,
-        right: &Value<'_>,
+        part: Part,
+        negated: bool,
+        elements: &[Value<'_>],
     ) -> Result<(), AllocError>
-        ensures { OnOk result (self.new
-            ≡ readings.with_addresses family end operator (value_view right.now) self.old) }
+        ensures { OnOk result (self.new ≡ readings.with_found self.old negated
+            (part_boxes family part (map value_view elements.now))) }
     {
-        let Some(negated) = is_negated(operator) else {
-            self.put_cause(RuleKind::CantSay);
-            return Ok(());
-        };
-        match addresses_of_value(alloc, family, right)? {
-            Some(spans) => {
-                let boxes = address_boxes(alloc, family, end, &spans)?;
-                self.take(alloc, negated, &boxes)
-            }
+        match part_boxes(alloc, family, part, elements)? {
+            Some(boxes) => self.take(alloc, negated, &boxes),
             None => {
                 self.put_cause(RuleKind::CantSay);
                 Ok(())
@@ -177,27 +168,66 @@ impl Reading {
         }
     }
 
-    /// A comparison of a field with the right side.
-    fn add_value(
+    /// A comparison with the elements that the right side has.
+    fn add_listed(
         &mut self,
         alloc: Global,
         family: Family,
-        field: Field,
+        part: Part,
+        negated: bool,
+        right: &Value<'_>,
+    ) -> Result<(), AllocError>
+        ensures { OnOk result (self.new ≡ readings.with_these family part self.old negated
+            (or_cant (elements_of (value_view right.now)))) }
+    {
+        match elements_of(right) {
+            Some(elements) => self.add_elements(alloc, family, part, negated, elements),
+            None => {
+                self.put_cause(RuleKind::CantSay);
+                Ok(())
+            }
+        }
+    }
+
+    /// A comparison with the right side, which is one for equality.
+    fn add_right(
+        &mut self,
+        alloc: Global,
+        known: Known<'_, '_, '_>,
+        part: Part,
+        negated: bool,
+        right: &Value<'_>,
+    ) -> Result<(), AllocError>
+        ensures { OnOk result (self.new ≡ readings.with_right (known_of known.entry) part
+            (value_view right.now) self.old (Some negated)) }
+    {
+        let family = known.question.asked.family;
+        let Some(name) = named_in(right) else {
+            return self.add_listed(alloc, family, part, negated, right);
+        };
+        match named_elements(Form::Values, known.owner, known.sets, name) {
+            Ok(elements) => self.add_elements(alloc, family, part, negated, elements),
+            Err(kind) => {
+                self.put_cause(kind);
+                Ok(())
+            }
+        }
+    }
+
+    /// A comparison of a part of the header with the right side.
+    fn add_value(
+        &mut self,
+        alloc: Global,
+        known: Known<'_, '_, '_>,
+        part: Part,
         operator: Operator,
         right: &Value<'_>,
     ) -> Result<(), AllocError>
-        ensures { OnOk result (self.new
-            ≡ readings.with_value family field operator (value_view right.now) self.old) }
+        ensures { OnOk result (self.new ≡ readings.with_value (known_of known.entry) part operator
+            (value_view right.now) self.old) }
     {
-        let Some(negated) = is_negated(operator) else {
-            self.put_cause(RuleKind::CantSay);
-            return Ok(());
-        };
-        match spans_of_value(alloc, field, right)? {
-            Some(spans) => {
-                let boxes = field_boxes(alloc, family, field, &spans)?;
-                self.take(alloc, negated, &boxes)
-            }
+        match is_negated(operator) {
+            Some(negated) => self.add_right(alloc, known, part, negated, right),
             None => {
                 self.put_cause(RuleKind::CantSay);
                 Ok(())
@@ -224,7 +254,7 @@ impl Reading {
     fn add_side(
         &mut self,
         alloc: Global,
-        known: Known<'_>,
+        known: Known<'_, '_, '_>,
         sides: Sides<'_, '_>,
     ) -> Result<(), AllocError>
         ensures { OnOk result (self.new ≡ readings.with_side (known_of known.entry)
@@ -238,18 +268,19 @@ impl Reading {
         let Question { asked, assumed } = known.question;
         match side {
             Left::Plain(field) => {
-                return self.add_value(alloc, asked.family, field, operator, right);
+                return self.add_value(alloc, known, Part::Number(field), operator, right);
             }
             Left::Address(end) => {
-                return self.add_addresses(alloc, asked.family, end, operator, right);
+                return self.add_value(alloc, known, Part::Address(end), operator, right);
             }
             Left::Ports(number, field) => {
                 self.keep_protocol(alloc, asked.family, number)?;
-                return self.add_value(alloc, asked.family, field, operator, right);
+                return self.add_value(alloc, known, Part::Number(field), operator, right);
             }
             Left::OtherFamily => self.keep_none(),
             Left::Nfproto => {
-                self.add_met(is_negated(operator), family_met(asked.family, right));
+                let met = family_met(asked.family, right).ok_or(RuleKind::CantSay);
+                self.add_met(is_negated(operator), met);
             }
             Left::Interface(way, naming) => self.add_met(
                 is_negated(operator),
@@ -267,11 +298,27 @@ impl Reading {
     fn add_match(
         &mut self,
         alloc: Global,
-        known: Known<'_>,
+        known: Known<'_, '_, '_>,
         said: &Value<'_>,
     ) -> Result<(), AllocError>
         ensures { OnOk result
             (self.new ≡ readings.with_match (known_of known.entry) (value_view said.now) self.old) }
+    {
+        match together_in(said) {
+            Some(key) => self.add_together(alloc, known, said, key),
+            None => self.add_sides(alloc, known, said),
+        }
+    }
+
+    /// A comparison of one thing.
+    fn add_sides(
+        &mut self,
+        alloc: Global,
+        known: Known<'_, '_, '_>,
+        said: &Value<'_>,
+    ) -> Result<(), AllocError>
+        ensures { OnOk result (self.new ≡ readings.with_sides (known_of known.entry) self.old
+            (sides_of known.entry.question.asked.family (value_view said.now))) }
     {
         match sides_of(known.question.asked.family, said) {
             Some(sides) => self.add_side(alloc, known, sides),
@@ -279,6 +326,28 @@ impl Reading {
                 self.put_cause(RuleKind::CantSay);
                 Ok(())
             }
+        }
+    }
+
+    /// A comparison of several things together.
+    fn add_together(
+        &mut self,
+        alloc: Global,
+        known: Known<'_, '_, '_>,
+        said: &Value<'_>,
+        key: &Value<'_>,
+    ) -> Result<(), AllocError>
+        ensures { OnOk result (self.new ≡ readings.with_together self.old
+            (readings.boxes_together (known_of known.entry) (value_view said.now)
+            (value_view key.now))) }
+    {
+        match boxes_together(alloc, known, said, key) {
+            Ok(boxes) => self.take(alloc, false, &boxes),
+            Err(RuleStop::Unsaid(kind)) => {
+                self.put_cause(kind);
+                Ok(())
+            }
+            Err(RuleStop::OutOfMemory) => Err(AllocError),
         }
     }
 
@@ -352,7 +421,7 @@ impl Reading {
     fn add_named(
         &mut self,
         alloc: Global,
-        known: Known<'_>,
+        known: Known<'_, '_, '_>,
         name: &str,
         said: &Value<'_>,
     ) -> Result<(), RuleStop>
@@ -383,7 +452,7 @@ impl Reading {
     fn add_statement(
         &mut self,
         alloc: Global,
-        known: Known<'_>,
+        known: Known<'_, '_, '_>,
         statement: &Value<'_>,
     ) -> Result<(), RuleStop>
         ensures ok { OnOk result (readings.with_statement (known_of known.entry)
@@ -401,57 +470,10 @@ impl Reading {
     }
 }
 
-/// Whether it is IPv4, if the family is.
-fn is_of(family: Family, is_ip4: bool) -> bool
-    ensures { result ≡ is_of family is_ip4 }
-{
-    match family {
-        Family::Ip4 => is_ip4,
-        Family::Ip6 => !is_ip4,
-    }
-}
-
-/// Whether the family of packets is the one that a value names.
-fn family_met(family: Family, value: &Value<'_>) -> Result<bool, RuleKind>
-    ensures { result ≡ family_met family (value_view value.now) }
-{
-    let Some(name) = value.as_str() else {
-        return Err(RuleKind::CantSay);
-    };
-    match is_ip4(name) {
-        Some(met) => Ok(is_of(family, met)),
-        None => Err(RuleKind::CantSay),
-    }
-}
-
-/// The place of the chain of the same table that a jump names.
-fn led_place(known: Known<'_>, said: &Value<'_>) -> Result<usize, RuleStop>
-    ensures { MatchResult result
-        (λ place. led_place (known_of known.entry) (target_of (value_view said.now))
-        ≡ Ok place)
-        (RefusesRule
-        (led_place (known_of known.entry) (target_of (value_view said.now)))) }
-{
-    if len_of(said) != 1 {
-        return Err(RuleStop::Unsaid(RuleKind::BadStatement));
-    }
-    let Some(name) = text_in("target", said) else {
-        return Err(RuleStop::Unsaid(RuleKind::BadStatement));
-    };
-    let target = Owner {
-        name,
-        ..known.owner
-    };
-    match place_of(known.chains, target, true) {
-        Some(place) => Ok(place),
-        None => Err(RuleStop::Unsaid(RuleKind::NoTarget)),
-    }
-}
-
 /// The statements of a rule.
 pub(crate) fn read_statements(
     alloc: Global,
-    known: Known<'_>,
+    known: Known<'_, '_, '_>,
     statements: &[Value<'_>],
 ) -> Result<Reading, RuleStop>
     ensures { MatchResult result

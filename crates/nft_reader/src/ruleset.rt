@@ -6,15 +6,16 @@ ghost use Rattle.std.specs.Str.{IsUtf8, is_utf8};
 ghost use Rattle.json.specs.Json.{document};
 ghost use Rattle.json.specs.Value.{value_view};
 ghost use Rattle.nft_reader.specs.Chains.{names_of};
-ghost use Rattle.nft_reader.specs.Known.{question_of};
+ghost use Rattle.nft_reader.specs.Known.{question_of, setting_of};
 ghost use Rattle.nft_reader.specs.Ruleset as listed;
 ghost use Rattle.nft_reader.specs.Stops.{IsToldOf, Refuses, fault_of};
 
 use crate::chain::{NftChain, place_of};
 use crate::fault::{NftFault, ObjectFault, ObjectKind, RuleStop, Stop};
-use crate::known::{Asked, Known, Question};
+use crate::known::{Asked, Known, Question, Setting};
 use crate::parts::{ChainParts, RuleParts, chain_parts, rule_parts};
 use crate::reading::read_statements;
+use crate::sets::sets_of;
 use crate::shapes::{items_of, only, text_in};
 use field_defs::Family;
 use json::{Error, Scratch, Value};
@@ -26,22 +27,23 @@ pub const MAX_RULESET: usize = 16_777_216;
 /// Puts a rule after the others of its chain, which has the place.
 fn put_rule(
     alloc: Global,
-    question: Question<'_>,
+    setting: Setting<'_, '_, '_>,
     chains: &mut Vec<NftChain>,
     parts: RuleParts<'_, '_>,
     place: usize,
 ) -> Result<(), AllocError>
     requires { place < length chains.old.items }
     ensures { OnOk result
-        (chains.new.items ≡ listed.with_rule_at (question_of question.entry) (record {
+        (chains.new.items ≡ listed.with_rule_at (setting_of setting.entry) (record {
           owner = names_of parts.entry.owner;
           handle = parts.entry.handle;
           statements = map value_view parts.entry.statements.now;
         }) chains.old.items place) }
 {
-    let asked = question.asked;
+    let asked = setting.question.asked;
     let known = Known {
-        question,
+        question: setting.question,
+        sets: setting.sets,
         chains,
         owner: parts.owner,
     };
@@ -57,20 +59,20 @@ fn put_rule(
 /// A rule of a family, whose chain stands before it.
 fn add_rule(
     alloc: Global,
-    question: Question<'_>,
+    setting: Setting<'_, '_, '_>,
     chains: &mut Vec<NftChain>,
     family: &str,
     said: &Value<'_>,
 ) -> Result<(), Stop>
-    ensures ok { OnOk result (listed.with_rule (question_of question.entry)
+    ensures ok { OnOk result (listed.with_rule (setting_of setting.entry)
         chains.old.items family.now (value_view said.now) ≡ Ok chains.new.items) }
-    ensures err { IfErr result (Refuses (listed.with_rule (question_of question.entry)
+    ensures err { IfErr result (Refuses (listed.with_rule (setting_of setting.entry)
         chains.old.items family.now (value_view said.now))) }
 {
     match rule_parts(family, said) {
         Ok(parts) => match place_of(chains, parts.owner, false) {
             Some(place) => {
-                put_rule(alloc, question, chains, parts, place)?;
+                put_rule(alloc, setting, chains, parts, place)?;
                 Ok(())
             }
             None => Err(Stop::Faulty(ObjectKind::NoChain)),
@@ -158,22 +160,22 @@ fn add_chain_object(
 /// A rule. Those of other families have no part.
 fn add_rule_object(
     alloc: Global,
-    question: Question<'_>,
+    setting: Setting<'_, '_, '_>,
     chains: &mut Vec<NftChain>,
     said: &Value<'_>,
 ) -> Result<(), Stop>
-    ensures ok { OnOk result (listed.with_rule_object (question_of question.entry)
+    ensures ok { OnOk result (listed.with_rule_object (setting_of setting.entry)
         chains.old.items (value_view said.now) ≡ Ok chains.new.items) }
-    ensures err { IfErr result (Refuses (listed.with_rule_object (question_of question.entry)
+    ensures err { IfErr result (Refuses (listed.with_rule_object (setting_of setting.entry)
         chains.old.items (value_view said.now))) }
 {
     let Some(family) = text_in("family", said) else {
         return Err(Stop::Faulty(ObjectKind::NoFamily));
     };
-    if !is_read(question.asked.family, family) {
+    if !is_read(setting.question.asked.family, family) {
         return Ok(());
     }
-    add_rule(alloc, question, chains, family, said)
+    add_rule(alloc, setting, chains, family, said)
 }
 
 /// A table has no flags: one that is dormant has no packets.
@@ -192,19 +194,19 @@ fn table_fault(said: &Value<'_>) -> Result<(), Stop>
 /// An object by its name.
 fn add_named_object(
     alloc: Global,
-    question: Question<'_>,
+    setting: Setting<'_, '_, '_>,
     chains: &mut Vec<NftChain>,
     name: &str,
     said: &Value<'_>,
 ) -> Result<(), Stop>
-    ensures ok { OnOk result (listed.with_named_object (question_of question.entry)
+    ensures ok { OnOk result (listed.with_named_object (setting_of setting.entry)
         chains.old.items name.now (value_view said.now) ≡ Ok chains.new.items) }
-    ensures err { IfErr result (Refuses (listed.with_named_object (question_of question.entry)
+    ensures err { IfErr result (Refuses (listed.with_named_object (setting_of setting.entry)
         chains.old.items name.now (value_view said.now))) }
 {
     match name {
-        "rule" => add_rule_object(alloc, question, chains, said),
-        "chain" => add_chain_object(alloc, question, chains, said),
+        "rule" => add_rule_object(alloc, setting, chains, said),
+        "chain" => add_chain_object(alloc, setting.question, chains, said),
         "table" => table_fault(said),
         _ => {
             if is_silent(name) {
@@ -218,17 +220,17 @@ fn add_named_object(
 /// An object, which has one member.
 fn add_object(
     alloc: Global,
-    question: Question<'_>,
+    setting: Setting<'_, '_, '_>,
     chains: &mut Vec<NftChain>,
     object: &Value<'_>,
 ) -> Result<(), Stop>
-    ensures ok { OnOk result (listed.with_object (question_of question.entry)
+    ensures ok { OnOk result (listed.with_object (setting_of setting.entry)
         chains.old.items (value_view object.now) ≡ Ok chains.new.items) }
-    ensures err { IfErr result (Refuses (listed.with_object (question_of question.entry)
+    ensures err { IfErr result (Refuses (listed.with_object (setting_of setting.entry)
         chains.old.items (value_view object.now))) }
 {
     match only(object) {
-        Some((name, said)) => add_named_object(alloc, question, chains, name, said),
+        Some((name, said)) => add_named_object(alloc, setting, chains, name, said),
         None => Err(Stop::Faulty(ObjectKind::UnknownObject)),
     }
 }
@@ -236,25 +238,46 @@ fn add_object(
 /// The chains of objects, or the first faulty one.
 fn read_objects(
     alloc: Global,
-    question: Question<'_>,
+    setting: Setting<'_, '_, '_>,
     objects: &[Value<'_>],
 ) -> Result<Vec<NftChain>, NftFault>
     ensures chains { IfOk result (λ chains.
-        listed.with_objects (question_of question.entry) 0 [] (map value_view objects.now)
+        listed.with_objects (setting_of setting.entry) 0 [] (map value_view objects.now)
         ≡ Ok chains.items) }
     ensures fault { IfErr result (IsToldOf
-        (listed.with_objects (question_of question.entry) 0 [] (map value_view objects.now))) }
+        (listed.with_objects (setting_of setting.entry) 0 [] (map value_view objects.now))) }
 {
     let mut chains = Vec::new(alloc);
     let mut number = 0;
     for object in objects {
         number += 1;
-        match add_object(alloc, question, &mut chains, object) {
+        match add_object(alloc, setting, &mut chains, object) {
             Ok(()) => {}
             Err(stop) => return Err(fault_of(number, stop)),
         }
     }
     Ok(chains)
+}
+
+/// The chains of objects that may name sets, or the first faulty one.
+fn read_with_sets(
+    alloc: Global,
+    question: Question<'_>,
+    objects: &[Value<'_>],
+) -> Result<Vec<NftChain>, NftFault>
+    ensures chains { IfOk result (λ chains.
+        listed.chains_of_objects (question_of question.entry) (Some (map value_view objects.now))
+        ≡ Ok chains.items) }
+    ensures fault { IfErr result (IsToldOf
+        (listed.chains_of_objects (question_of question.entry)
+        (Some (map value_view objects.now)))) }
+{
+    let sets = sets_of(alloc, objects)?;
+    let setting = Setting {
+        question,
+        sets: sets.as_slice(),
+    };
+    read_objects(alloc, setting, objects)
 }
 
 /// Why a ruleset isn't read whose object isn't.
@@ -301,7 +324,7 @@ fn read_value(
         (listed.objects_of (value_view value.now)))) }
 {
     match objects_of(value) {
-        Some(objects) => read_objects(alloc, question, objects),
+        Some(objects) => read_with_sets(alloc, question, objects),
         None => Err(whole_fault(ObjectKind::NoList)),
     }
 }

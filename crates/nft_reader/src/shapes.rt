@@ -6,7 +6,7 @@
 ghost use Rattle.std.specs.Prelude.{◌≡◌, ◌≤◌, map, Some, None, IfSome, MatchOption};
 ghost use Rattle.json.specs.Value.{value_view};
 ghost use Rattle.nft_reader.specs.Shapes.{decimal_of, items_in, items_of, len_of, number_in};
-ghost use Rattle.nft_reader.specs.Shapes.{number_of, only, text_in};
+ghost use Rattle.nft_reader.specs.Shapes.{number_of, only, present, text_in};
 
 use json::Value;
 use text_scan::digits_value;
@@ -67,6 +67,14 @@ pub(crate) fn text_in<'a>(key: &str, value: &Value<'a>) -> Option<&'a str>
         (λ text. text_in key.now (value_view value.now) ≡ Some text.now) }
 {
     value.get(key)?.as_str()
+}
+
+/// How many members of a name there are.
+pub(crate) fn present(key: &str, value: &Value<'_>) -> usize
+    ensures present { result ≡ present key.now (value_view value.now) }
+    ensures bound { result ≤ 1 }
+{
+    usize::from(value.get(key).is_some())
 }
 
 /// The number that digits spell, at most so great.

@@ -1,13 +1,14 @@
 //! The right side of a comparison with a protocol or with ports: numbers, ranges, and anonymous
 //! sets of these.
 
-ghost use Rattle.std.specs.Prelude.{◌≡◌, [], map, Some, None, IfOk, MatchOption};
+ghost use Rattle.std.specs.Prelude.{◌≡◌, ◌≤◌, [], map, Some, None, IfOk, MatchOption};
 ghost use Rattle.json.specs.Value.{value_view};
-ghost use Rattle.nft_reader.specs.Values.{elements_of, filled_span, gathered, named_span, other_named};
+ghost use Rattle.nft_reader.specs.Values.{bare_element, bare_said, element_span, elements_of};
+ghost use Rattle.nft_reader.specs.Values.{filled_span, gathered, named_span, other_named};
 ghost use Rattle.nft_reader.specs.Values.{plain_span, ported_named, protocol_named, protocol_of};
-ghost use Rattle.nft_reader.specs.Values.{range_of, span_list, span_of, spans_of_value, value_of};
+ghost use Rattle.nft_reader.specs.Values.{quiet_members, range_of, span_list, span_of, value_of};
 
-use crate::shapes::{items_of, number_of, only};
+use crate::shapes::{items_of, len_of, number_of, only, present};
 use iptables_reader::Field;
 use json::Value;
 use list_chains::Span;
@@ -129,6 +130,45 @@ fn span_of(field: Field, value: &Value<'_>) -> Option<Span>
     }
 }
 
+/// How many members of an element say nothing of packets.
+fn quiet_members(said: &Value<'_>) -> usize
+    ensures members { result ≡ quiet_members (value_view said.now) }
+    ensures bound { result ≤ 2 }
+{
+    present("counter", said) + present("comment", said)
+}
+
+/// The value of an element that has other members.
+fn bare_said<'v, 'a>(said: &'v Value<'a>) -> Option<&'v Value<'a>>
+    ensures { MatchOption result
+        (bare_said (value_view said.now) ≡ None)
+        (λ bare. bare_said (value_view said.now) ≡ Some (value_view bare.now)) }
+{
+    if len_of(said) != 1 + quiet_members(said) {
+        return None;
+    }
+    said.get("val")
+}
+
+/// The value of an element, which may have a counter and a comment.
+pub(crate) fn bare_element<'v, 'a>(value: &'v Value<'a>) -> Option<&'v Value<'a>>
+    ensures { MatchOption result
+        (bare_element (value_view value.now) ≡ None)
+        (λ bare. bare_element (value_view value.now) ≡ Some (value_view bare.now)) }
+{
+    match only(value) {
+        Some(("elem", said)) => bare_said(said),
+        _ => Some(value),
+    }
+}
+
+/// The span of an element's value.
+fn element_span(field: Field, element: &Value<'_>) -> Option<Span>
+    ensures { result ≡ element_span field (value_view element.now) }
+{
+    span_of(field, bare_element(element)?)
+}
+
 /// The elements of a value: those of a set, or else the value itself.
 pub(crate) fn elements_of<'v, 'a>(value: &'v Value<'a>) -> Option<&'v [Value<'a>]>
     ensures { MatchOption result
@@ -142,7 +182,7 @@ pub(crate) fn elements_of<'v, 'a>(value: &'v Value<'a>) -> Option<&'v [Value<'a>
 }
 
 /// The spans of elements, if each has one.
-fn spans_of(
+pub(crate) fn spans_of(
     alloc: Global,
     field: Field,
     values: &[Value<'_>],
@@ -153,26 +193,10 @@ fn spans_of(
 {
     let mut spans = Vec::new(alloc);
     for value in values {
-        match span_of(field, value) {
+        match element_span(field, value) {
             Some(span) => spans.push(span)?,
             None => return Ok(None),
         }
     }
     Ok(Some(spans))
-}
-
-/// The spans of the right side of a comparison with a field, if it is known.
-pub(crate) fn spans_of_value(
-    alloc: Global,
-    field: Field,
-    value: &Value<'_>,
-) -> Result<Option<Vec<Span>>, AllocError>
-    ensures { IfOk result (λ found. MatchOption found
-        (spans_of_value field (value_view value.now) ≡ None)
-        (λ spans. spans_of_value field (value_view value.now) ≡ Some spans.items)) }
-{
-    match elements_of(value) {
-        Some(values) => spans_of(alloc, field, values),
-        None => Ok(None),
-    }
 }

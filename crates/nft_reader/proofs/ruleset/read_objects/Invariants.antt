@@ -1,7 +1,7 @@
 -- The objects that were read so far.
 use Rattle.std.proofs.Common.{◌≡◌, [], map, drop}
 use Rattle.json.specs.Value.{value_view}
-use Rattle.nft_reader.specs.Known.{question_of}
+use Rattle.nft_reader.specs.Known.{setting_of}
 use Rattle.nft_reader.specs.Ruleset.{with_objects}
 use Rattle.nft_reader.proofs.ruleset.read_objects.Given as goal
 
@@ -9,5 +9,5 @@ use Rattle.nft_reader.proofs.ruleset.read_objects.Given as goal
 abbrev pub invariant-loop-object : goal.invariant-loop-object
 invariant-loop-object l =
     (l.number ≡ l.object-index)
-    × (with_objects (question_of l.question) 0 [] (map value_view l.objects)
-    ≡ with_objects (question_of l.question) l.number l.chains.items (map value_view (drop l.object-index l.objects)))
+    × (with_objects (setting_of l.setting) 0 [] (map value_view l.objects)
+    ≡ with_objects (setting_of l.setting) l.number l.chains.items (map value_view (drop l.object-index l.objects)))
