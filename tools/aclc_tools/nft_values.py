@@ -46,6 +46,8 @@ def named_elements(name, sets):
     if other or "timeout" in said:
         kind = " and ".join(map(str, other)) or "timed"
         raise CantSay(f"the elements of the set {name} come and go, since it is {kind}")
+    if said["changed"]:
+        raise CantSay(f"the elements of the set {name} come and go, since the rule {said['changed']} changes them")
     types = said["type"] if isinstance(said["type"], list) else [said["type"]]
     if not all(isinstance(it, str) and it in TYPES for it in types):
         raise CantSay(f"the type of the set {name} isn't known here: {plain(said['type'])}")

@@ -31,7 +31,7 @@ class Ruleset:
     """The tables of a ruleset, with chains, rules and sets."""
 
     def __init__(self, objects):
-        self.tables, self.chains, self.rules, self.sets, self.handles = {}, {}, {}, {}, set()
+        self.tables, self.chains, self.rules, self.sets, self.handles, self.changes = {}, {}, {}, {}, set(), {}
         for it in objects:
             name, said = one_of(it)
             if name in ("table", "chain", "rule", "set", "map"):
@@ -85,6 +85,7 @@ class Ruleset:
             raise CantSay("its JSON isn't what nft writes", said["handle"])
         self.claim(said)
         self.rules[key].append(said)
+        self.changes.update({(*key[:2], name): said["handle"] for name in nft_rule.changed_sets(said["expr"])})
 
     def add_set(self, said):
         """Takes a set or a map of a table, which stands once."""
@@ -96,8 +97,9 @@ class Ruleset:
     add_map = add_set
 
     def sets_of(self, family, table):
-        """The sets and maps of a table, by name."""
-        return {key[2]: said for key, said in self.sets.items() if key[:2] == (family, table)}
+        """The sets and maps of a table by name, each with the handle of a rule that changes it, or none."""
+        return {key[2]: {**said, "changed": self.changes.get(key)} for key, said in self.sets.items()
+                if key[:2] == (family, table)}
 
     def dormant(self, key):
         """Whether a chain's table is asleep, so that no packet comes to it."""
