@@ -1,7 +1,7 @@
 -- What is asked of each element of a list, seen through a function: what the next one decides, and what
 -- is decided where none is left.
-use Rattle.std.proofs.Common.{◌≡◌, ℕ, ◌+◌, ◌<◌, ◌≤◌, Bool, true, false, ◌&&◌, ◌||◌, cond, List, length, map, drop, get_or}
-use Rattle.std.proofs.Common.{Some, None, ap, ◌∙◌}
+use Rattle.std.proofs.Common.{◌≡◌, ℕ, ◌+◌, ◌<◌, ◌≤◌, Bool, true, false, ◌&&◌, ◌||◌, cond, List, length, map}
+use Rattle.std.proofs.Common.{drop, get_or, Some, None, ap, ◌∙◌}
 use Rattle.std.specs.List.{find, list_all, list_any}
 use Rattle.std.proofs.lemmas.List.{drop_all}
 use Rattle.list_lemmas.proofs.Loops.{left_is}

@@ -1,5 +1,6 @@
 -- Values of JSON, level by level.
-use Rattle.std.proofs.Common.{◌≡◌, ◌≢◌, ℕ, suc, List, [], ◌∷◌, length, map, Some, None, get_or, arith, refl, ap, Bool, ◌||◌}
+use Rattle.std.proofs.Common.{◌≡◌, ◌≢◌, ℕ, suc, Bool, ◌||◌, List, [], ◌∷◌, length, map, Some, None, get_or}
+use Rattle.std.proofs.Common.{arith, refl, ap}
 use Rattle.std.specs.List.{list_all, list_any}
 use Rattle.std.proofs.lemmas.List.Folds.{list_all-map}
 use Rattle.json.specs.Json.{Json}

@@ -1,6 +1,7 @@
--- An object is asked for its members by their names, and for how many it has. That suffices: it has no
--- other members, and none twice.
-use Rattle.std.specs.Prelude.{◌≡◌, ℕ, Bool, true, is_some, List, [], ◌∷◌, length, Option, Some, None}
+-- An object is asked for its members by their names, and for how many it has. That suffices: it has
+-- no other members, and none twice.
+use Rattle.std.specs.Prelude.{◌≡◌, ℕ, Bool, true, is_some, List, [], ◌∷◌, length, Option, Some}
+use Rattle.std.specs.Prelude.{None}
 use Rattle.std.specs.List.{IsDistinct, list_any}
 use Rattle.std.specs.Str.{bytes_eq}
 use Rattle.json.specs.Json.{Json, Members, no_members, member}

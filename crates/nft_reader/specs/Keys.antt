@@ -1,5 +1,5 @@
--- What the left side of a comparison or the key of a map takes together (libnftables-json(5), "CONCAT"):
--- an element is the packets that have its part in each of what is taken together.
+-- What the left side of a comparison or the key of a map takes together (libnftables-json(5),
+-- "CONCAT"): an element is the packets that have its part in each of what is taken together.
 use Rattle.std.specs.Prelude.{ℕ, ◌==◌, Bool, true, false, if◌then◌else◌, codes}
 use Rattle.std.specs.Prelude.{List, [], ◌∷◌, ◌++◌, length, Option, Some, None, option_and_then}
 use Rattle.std.specs.Prelude.{Result, Ok, Err}

@@ -1,6 +1,6 @@
 -- A rule, statement by statement (libnftables-json(5), "STATEMENTS"). Its comparisons say which
--- packets it catches, and its last statement what becomes of them. A statement that isn't known here
--- isn't passed over: the rule then isn't said.
+-- packets it catches, and its last statement what becomes of them. A statement that isn't known
+-- here isn't passed over: the rule then isn't said.
 use Rattle.std.specs.Prelude.{ℕ, ◌==◌, Bool, true, false, is_some, not, if◌then◌else◌, codes}
 use Rattle.std.specs.Prelude.{List, [], ◌∷◌, Option, Some, None, option_and_then, Result, Ok, Err}
 use Rattle.std.specs.Borrow.{Bor}
@@ -128,7 +128,8 @@ with_side known left.State compares right reading =
 -- a comparison by its sides, if they are known
 abbrev pub with_sides : Known → ReadRule → Option MatchSides → ReadRule
 with_sides known reading None = with_cause kind.CantSay reading
-with_sides known reading (Some sides) = with_side known sides.side sides.operator sides.right reading
+with_sides known reading (Some sides) =
+    with_side known sides.side sides.operator sides.right reading
 
 -- several things together, as the left side of a comparison
 abbrev pub together_by : Json → Option (List Json) → Option Json
@@ -136,7 +137,8 @@ together_by key None = None
 together_by key (Some keys) = Some key
 
 abbrev pub together_in : Json → Option Json
-together_in said = option_and_then (λ key. together_by key (concat_of key)) (get (codes "left") said)
+together_in said =
+    option_and_then (λ key. together_by key (concat_of key)) (get (codes "left") said)
 
 -- the packets of which they are an element of the right side
 abbrev pub elements_together : Known → Json → Json → Result (List Packets) RuleKind

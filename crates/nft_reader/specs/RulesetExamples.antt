@@ -54,10 +54,11 @@ rule userdata target box =
 abbrev declarations : List ℕ
 declarations =
     codes "{\"nftables\": [{\"metainfo\": {\"version\": \"1.0.6\", \"json_schema_version\": "
-    ++ codes "1}}, {\"table\": {\"family\": \"inet\", \"name\": \"f\", \"handle\": 1}}, {\"chain\": "
+    ++ codes "1}}, {\"table\": {\"family\": \"inet\", \"name\": \"f\", \"handle\": 1}}, "
+    ++ codes "{\"chain\": "
     ++ codes "{\"family\": \"inet\", \"table\": \"f\", \"name\": \"web\", \"handle\": 1}}, "
-    ++ codes "{\"chain\": {\"family\": \"inet\", \"table\": \"f\", \"name\": \"in\", \"handle\": 2, "
-    ++ codes "\"type\": \"filter\", \"hook\": \"input\", \"prio\": 0, \"policy\": \"drop\"}}"
+    ++ codes "{\"chain\": {\"family\": \"inet\", \"table\": \"f\", \"name\": \"in\", \"handle\": "
+    ++ codes "2, \"type\": \"filter\", \"hook\": \"input\", \"prio\": 0, \"policy\": \"drop\"}}"
 
 -- a rule of the chain in, of these statements
 abbrev rule_of : List ℕ → List ℕ
@@ -132,8 +133,8 @@ a_prefix_of_other_addresses = refl
 
 -- tcp dport { 22, 1000-2000 } counter jump web
 ports_of_tcp : said
-    (codes "{\"match\": {\"op\": \"==\", \"left\": {\"payload\": {\"protocol\": \"tcp\", \"field\": "
-    ++ codes "\"dport\"}}, \"right\": {\"set\": [22, {\"range\": [1000, 2000]}]}}}, "
+    (codes "{\"match\": {\"op\": \"==\", \"left\": {\"payload\": {\"protocol\": \"tcp\", "
+    ++ codes "\"field\": \"dport\"}}, \"right\": {\"set\": [22, {\"range\": [1000, 2000]}]}}}, "
     ++ codes "{\"counter\": {\"packets\": 0, \"bytes\": 0}}, {\"jump\": {\"target\": \"web\"}}")
     ≡ with_rules (rule 7 (Jump 0) (tcp ∷ any ∷ any ∷ ports ∷ (22 to 22) ∷ [])
     ∷ rule 7 (Jump 0) (tcp ∷ any ∷ any ∷ ports ∷ (1000 to 2000) ∷ []) ∷ []) []
@@ -151,7 +152,8 @@ protocols = refl
 
 -- ip6 saddr fe80::/10 ct state new accept: no IPv4 packet is caught
 packets_of_ip6 : said
-    (codes "{\"match\": {\"op\": \"==\", \"left\": {\"payload\": {\"protocol\": \"ip6\", \"field\": "
+    (codes "{\"match\": {\"op\": \"==\", \"left\": {\"payload\": {\"protocol\": \"ip6\", "
+    ++ codes "\"field\": "
     ++ codes "\"saddr\"}}, \"right\": {\"prefix\": {\"addr\": \"fe80::\", \"len\": 10}}}}, "
     ++ codes "{\"accept\": null}")
     ≡ with_rules [] []
@@ -167,7 +169,8 @@ from6 high low = all ∷ high ∷ low ∷ half ∷ half ∷ ports ∷ ports ∷ 
 
 -- the same of IPv6 packets: the high halves from fe80:: to febf:ffff:ffff:ffff::
 packets_from_ip6 : said6
-    (codes "{\"match\": {\"op\": \"==\", \"left\": {\"payload\": {\"protocol\": \"ip6\", \"field\": "
+    (codes "{\"match\": {\"op\": \"==\", \"left\": {\"payload\": {\"protocol\": \"ip6\", "
+    ++ codes "\"field\": "
     ++ codes "\"saddr\"}}, \"right\": {\"prefix\": {\"addr\": \"fe80::\", \"len\": 10}}}}, "
     ++ codes "{\"accept\": null}")
     ≡ with_rules
@@ -177,7 +180,8 @@ packets_from_ip6 = refl
 
 -- ip6 saddr { ::1, ::5-::9 } accept
 addresses_of_ip6 : said6
-    (codes "{\"match\": {\"op\": \"==\", \"left\": {\"payload\": {\"protocol\": \"ip6\", \"field\": "
+    (codes "{\"match\": {\"op\": \"==\", \"left\": {\"payload\": {\"protocol\": \"ip6\", "
+    ++ codes "\"field\": "
     ++ codes "\"saddr\"}}, \"right\": {\"set\": [\"::1\", {\"range\": [\"::5\", \"::9\"]}]}}}, "
     ++ codes "{\"accept\": null}")
     ≡ with_rules (rule 7 Decide (from6 (0 to 0) (1 to 1))
@@ -209,8 +213,8 @@ a_message_of_ip6 = refl
 
 -- tcp dport 25 log: the next rule decides
 only_a_log : said
-    (codes "{\"match\": {\"op\": \"==\", \"left\": {\"payload\": {\"protocol\": \"tcp\", \"field\": "
-    ++ codes "\"dport\"}}, \"right\": 25}}, {\"log\": null}")
+    (codes "{\"match\": {\"op\": \"==\", \"left\": {\"payload\": {\"protocol\": \"tcp\", "
+    ++ codes "\"field\": \"dport\"}}, \"right\": 25}}, {\"log\": null}")
     ≡ with_rules [] []
 unfolding json_on_literals with_statements with_objects gathered digits
 only_a_log = refl
@@ -295,13 +299,6 @@ a_starred_name : said_under (codes "out=eth0")
     ≡ unsaid_by kind.CantSay
 unfolding json_on_literals with_statements with_objects
 a_starred_name = refl
-
--- iifname @ours accept
-interfaces_of_a_set : said_under (codes "in=@ours")
-    (of_interface (codes "\"==\"") (codes "\"iifname\"") (codes "\"@ours\""))
-    ≡ unsaid_by kind.CantSay
-unfolding json_on_literals with_statements with_objects
-interfaces_of_a_set = refl
 
 -- queue to 0
 a_queue : said

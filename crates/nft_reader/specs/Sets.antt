@@ -1,6 +1,6 @@
--- Named sets and maps of a ruleset (libnftables-json(5), "SET" and "MAP"). What they have is taken as
--- it is listed, if neither time nor packets change it. Packets change a set where a rule of its table
--- adds elements to it: the list doesn't show a flag for this.
+-- Named sets and maps of a ruleset (libnftables-json(5), "SET" and "MAP"). What they have is taken
+-- as it is listed, if neither time nor packets change it. Packets change a set where a rule of its
+-- table adds elements to it: the list doesn't show a flag for this.
 use Rattle.std.specs.Prelude.{ℕ, ◌+◌, ◌==◌, Bool, true, false, ◌&&◌, ◌||◌, not, is_some}
 use Rattle.std.specs.Prelude.{if◌then◌else◌, codes, List, [], ◌∷◌, map, take, drop}
 use Rattle.std.specs.Prelude.{Option, Some, None, option_and_then, Result, Ok, Err}

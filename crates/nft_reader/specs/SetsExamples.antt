@@ -1,5 +1,5 @@
--- Examples of sets and of several things together, each checked by evaluation: objects as nft -j prints
--- them, and what a rule that names them says.
+-- Examples of sets and of several things together, each checked by evaluation: objects as nft -j
+-- prints them, and what a rule that names them says.
 use Rattle.std.specs.Prelude.{◌≡◌, ℕ, ◌++◌, List, [], ◌∷◌, codes, Result, Ok, None, refl}
 use Rattle.std.specs.Fmt.{digits}
 use Rattle.json.proofs.OnLiterals.{json_on_literals}
@@ -54,7 +54,8 @@ with_rules rules faults = Ok (record {
 -- a rule of the family ip, of these statements
 abbrev rule_of : List ℕ → List ℕ
 rule_of statements =
-    codes "{\"rule\": {\"family\": \"ip\", \"table\": \"f\", \"chain\": \"in\", \"handle\": 7, \"expr\": ["
+    codes "{\"rule\": {\"family\": \"ip\", \"table\": \"f\", \"chain\": \"in\", \"handle\": 7, "
+    ++ codes "\"expr\": ["
     ++ statements ++ codes "]}}"
 
 -- the chain
@@ -145,7 +146,8 @@ pair =
 several_together :
     said [] (codes "{\"match\": {\"op\": \"==\", \"left\": " ++ pair
     ++ codes ", \"right\": {\"set\": [{\"concat\": [\"10.0.0.1\", 22]}, {\"concat\": [{\"prefix\": "
-    ++ codes "{\"addr\": \"11.0.0.0\", \"len\": 8}}, {\"range\": [80, 90]}]}]}}}, {\"accept\": null}")
+    ++ codes "{\"addr\": \"11.0.0.0\", \"len\": 8}}, {\"range\": [80, 90]}]}]}}}, {\"accept\": "
+    ++ codes "null}")
     ≡ with_rules (rule Decide (packets (6 to 6) (167772161 to 167772161) (22 to 22))
     ∷ rule Decide (packets (6 to 6) (184549376 to 201326591) (80 to 90)) ∷ []) []
 unfolding json_on_literals with_statements with_objects gathered parts_boxes elements_boxes digits

@@ -260,13 +260,9 @@ impl Reading {
         ensures { OnOk result (self.new ≡ readings.with_side (known_of known.entry)
             sides.entry.side sides.entry.operator (value_view sides.entry.right.now) self.old) }
     {
-        let Sides {
-            side,
-            operator,
-            right,
-        } = sides;
+        let (operator, right) = (sides.operator, sides.right);
         let Question { asked, assumed } = known.question;
-        match side {
+        match sides.side {
             Left::Plain(field) => {
                 return self.add_value(alloc, known, Part::Number(field), operator, right);
             }

@@ -332,9 +332,9 @@ fn read_value(
 /// The chains of a ruleset for the packets of a family, or a faulty object.
 ///
 /// `bytes` holds the whole file, at most [`MAX_RULESET`] bytes: an object with the one member
-/// `nftables`, the list of the ruleset's objects. Chains and rules are read of inet, and for IPv4 of
-/// ip, for IPv6 of ip6; those of other families have no part. Each rule stands after its chain, and
-/// after the chains that it leads to.
+/// `nftables`, the list of the ruleset's objects. Chains and rules are read of inet, and for IPv4
+/// of ip, for IPv6 of ip6; those of other families have no part. Each rule stands after its chain,
+/// and after the chains that it leads to.
 ///
 /// A rule that no rule file says leads to no chain, so that `list_chains` refuses each chain whose
 /// packets may come to it; the chain's faults have its cause.

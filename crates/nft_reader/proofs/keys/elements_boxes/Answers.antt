@@ -22,8 +22,8 @@ returns-in_err-more c =
     l.invariant ∙ ap (λ values. elements_boxes family key l.boxes.items (map value_view values)) here
     ∙ element_first family key l.boxes.items (value_view x) rest in
     let refused = subst (λ it. RefusesRule it stop) (sym all)
-    (then_refused (element_boxes family key (value_view x)) (λ more. elements_boxes family key (l.boxes.items ++ more) rest) stop
-    c.in_err-more.ensures) in
+    (then_refused (element_boxes family key (value_view x))
+    (λ more. elements_boxes family key (l.boxes.items ++ more) rest) stop c.in_err-more.ensures) in
     search (rules, refused)
 
 pub loop-element-preserved : goal.loop-element-preserved
@@ -38,8 +38,8 @@ loop-element-preserved c =
     l.invariant
     ∙ ap (λ values. elements_boxes family key l.boxes.items (map value_view values)) here
     ∙ element_first family key l.boxes.items (value_view x) rest
-    ∙ then_more (element_boxes family key (value_view x)) (λ more. elements_boxes family key (l.boxes.items ++ more) rest) _
-    c.in_ok-more.ensures
+    ∙ then_more (element_boxes family key (value_view x))
+    (λ more. elements_boxes family key (l.boxes.items ++ more) rest) _ c.in_ok-more.ensures
     ∙ ap (λ boxes. elements_boxes family key boxes rest)
     (ap (λ more. l.boxes.items ++ more) (sym c.kept.ensures) ∙ sym c.in_ok-extend_from_slice.ensures.items)
 

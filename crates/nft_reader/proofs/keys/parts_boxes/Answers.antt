@@ -52,7 +52,8 @@ loop-place-preserved c =
     ∙ then_more (thing_boxes family (value_view key) (value_view value))
     (λ more. parts_boxes family (meets l.caught.kept more) more_keys more_values) _ c.in_ok-more.ensures
     ∙ ap (λ boxes. parts_boxes family boxes more_keys more_values)
-    (ap (meets l.caught.kept) (sym c.deref.ensures.value) ∙ ap (λ (it : CaughtBoxes). it.kept) (sym c.in_ok-take.ensures))
+    (ap (meets l.caught.kept) (sym c.deref.ensures.value)
+    ∙ ap (λ (it : CaughtBoxes). it.kept) (sym c.in_ok-take.ensures))
 
 pub returns : goal.returns
 returns c =
