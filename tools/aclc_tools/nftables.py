@@ -12,6 +12,7 @@ from aclc_tools.nft_match import Comparing
 from aclc_tools.nft_text import SHAPES, one_of, plain
 
 FAMILIES = {"ip": (4,), "ip6": (6,), "inet": (4, 6)}
+OTHER_FAMILIES = ("arp", "bridge", "netdev")
 POLICIES = {"accept": ACCEPT, "drop": DROP}
 # Objects that say nothing of packets by themselves.
 SILENT = ("metainfo", "flowtable", "counter", "quota", "limit", "ct helper", "ct timeout", "ct expectation", "secmark",
@@ -60,6 +61,8 @@ class Ruleset:
     def add_table(self, said):
         """Takes a table, which stands once."""
         key = self.key(said, "family", "name")
+        if key[0] not in (*FAMILIES, *OTHER_FAMILIES):
+            raise CantSay(f"{key[0]} is no family of tables")
         if key in self.tables:
             raise CantSay(f"the table {' '.join(key)} stands twice")
         self.tables[key] = said

@@ -7,6 +7,7 @@ import draws_nft
 import walk_nft
 from aclc_tools import assume
 from aclc_tools.forms import options_of
+from aclc_tools.nftables import OTHER_FAMILIES
 from converting import Drawn
 from draws_iptables import assumed_of
 
@@ -96,13 +97,13 @@ def without(text, handle):
 
 
 def is_passed_over(name, said, refused):
-    """Whether the program passes over an object: a table's own, one of a family that it doesn't know, or a rule that
-    compares the family, so that it may catch no packet that is asked for."""
+    """Whether the program passes over an object: a table whose name is none, one of a family that it doesn't read, or a
+    rule that compares the family, so that it may catch no packet that is asked for."""
     if name == "table":
-        return not (isinstance(said.get("family"), str) and isinstance(said.get("name"), str))
+        return not isinstance(said.get("name"), str)
     if name == "rule" and said.get("handle") == refused.number:
         return "nfproto" in json.dumps(said) or "ip6" in json.dumps(said)
-    return isinstance(said, dict) and said.get("family", "ip") not in ("ip", "ip6", "inet")
+    return isinstance(said, dict) and said.get("family") in OTHER_FAMILIES
 
 
 def has_no_part(text, refused):

@@ -259,33 +259,68 @@ abbrev pub is_read : Family → List ℕ → Bool
 is_read family.Ip4 name = bytes_eq name (codes "ip") || bytes_eq name (codes "inet")
 is_read family.Ip6 name = bytes_eq name (codes "ip6") || bytes_eq name (codes "inet")
 
+-- a family of tables (nft(8), "ADDRESS FAMILIES")
+abbrev pub is_family : List ℕ → Bool
+is_family name =
+    bytes_eq name (codes "ip") || bytes_eq name (codes "ip6") || bytes_eq name (codes "inet")
+    || bytes_eq name (codes "arp") || bytes_eq name (codes "bridge")
+    || bytes_eq name (codes "netdev")
+
+-- a name that is one of a family
+abbrev pub family_named : List ℕ → Option (List ℕ)
+family_named name = if is_family name then Some name else None
+
+-- the family of an object
+abbrev pub family_in : Json → Option (List ℕ)
+family_in said = option_and_then family_named (text_in (codes "family") said)
+
+-- an object has a family
+abbrev pub has_family : Json → Bool
+has_family said = is_some (family_in said)
+
 -- a table has flags
 abbrev pub has_flags : Json → Bool
 has_flags said = is_some (get (codes "flags") said)
 
--- a table has no flags: one that is dormant has no packets
-abbrev pub with_table : List ListedChain → Json → Result (List ListedChain) ObjectKind
-with_table chains said =
-    if has_flags said then Err object.BadTable else Ok chains
+-- a table has a family, and no flags: one that is dormant has no packets
+abbrev pub table_fault : Json → Option ObjectKind
+table_fault said =
+    if has_family said then (if has_flags said then Some object.BadTable else None)
+    else Some object.NoFamily
 
--- objects that say nothing of packets by themselves
+-- objects of tables that say nothing of packets by themselves
 abbrev pub is_silent : List ℕ → Bool
 is_silent name =
-    bytes_eq name (codes "metainfo") || bytes_eq name (codes "set") || bytes_eq name (codes "map")
-    || bytes_eq name (codes "counter")
+    bytes_eq name (codes "set") || bytes_eq name (codes "map") || bytes_eq name (codes "counter")
+
+-- such an object has a family
+abbrev pub silent_fault : Json → Option ObjectKind
+silent_fault said = if has_family said then None else Some object.NoFamily
+
+-- the fault of an object that is no chain and no rule
+abbrev pub other_fault : List ℕ → Json → Option ObjectKind
+other_fault name said =
+    if bytes_eq name (codes "table") then table_fault said
+    else (if is_silent name then silent_fault said
+    else (if bytes_eq name (codes "metainfo") then None else Some object.UnknownObject))
+
+-- the chains stay as they are, unless an object has a fault
+abbrev pub unless : List ListedChain → Option ObjectKind → Result (List ListedChain) ObjectKind
+unless chains None = Ok chains
+unless chains (Some why) = Err why
 
 -- a chain of a family that is read; others have no part
 abbrev pub with_chain_object : Question → List ListedChain → Json →
     Result (List ListedChain) ObjectKind
 with_chain_object question chains said =
-    or_fault object.NoFamily (text_in (codes "family") said) >>= λ name.
+    or_fault object.NoFamily (family_in said) >>= λ name.
     if is_read question.asked.family name then with_chain question chains name said else Ok chains
 
 -- a rule of such a family
 abbrev pub with_rule_object : Setting → List ListedChain → Json →
     Result (List ListedChain) ObjectKind
 with_rule_object setting chains said =
-    or_fault object.NoFamily (text_in (codes "family") said) >>= λ name.
+    or_fault object.NoFamily (family_in said) >>= λ name.
     if is_read setting.question.asked.family name then with_rule setting chains name said
     else Ok chains
 
@@ -295,8 +330,7 @@ abbrev pub with_named_object : Setting → List ListedChain → List ℕ → Jso
 with_named_object setting chains name said =
     if bytes_eq name (codes "rule") then with_rule_object setting chains said
     else (if bytes_eq name (codes "chain") then with_chain_object setting.question chains said
-    else (if bytes_eq name (codes "table") then with_table chains said
-    else (if is_silent name then Ok chains else Err object.UnknownObject)))
+    else unless chains (other_fault name said))
 
 -- an object by its only member, if it has one
 abbrev pub with_only_object : Setting → List ListedChain → Option (List ℕ × Json) →

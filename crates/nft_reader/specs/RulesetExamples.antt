@@ -321,6 +321,13 @@ a_command : read (codes "{\"nftables\": [{\"metainfo\": {}}, {\"add\": {}}]}")
 unfolding json_on_literals with_objects
 a_command = refl
 
+-- so is one of a family that nft doesn't have, of whatever kind
+an_unknown_family : read (codes "{\"nftables\": [{\"table\": {\"family\": \"arp\", \"name\": "
+    ++ codes "\"f\"}}, {\"set\": {\"family\": \"ipx\", \"name\": \"s\", \"table\": \"f\"}}]}")
+    ≡ Err (record { object = 2; kind = object.NoFamily })
+unfolding json_on_literals with_objects
+an_unknown_family = refl
+
 -- what nft lists without -j is no JSON
 no_json : chains_of handles [] (codes "table inet f {")
     ≡ Err (record { object = 0; kind = object.NotJson })

@@ -1,6 +1,6 @@
 //! A ruleset, object by object: its chains for the packets of a family.
 
-ghost use Rattle.std.specs.Prelude.{◌≡◌, ◌<◌, [], length, map, nat_lt, true, false, IfErr, IfOk};
+ghost use Rattle.std.specs.Prelude.{◌≡◌, ◌<◌, [], length, map, nat_lt, IfErr, IfOk};
 ghost use Rattle.std.specs.Prelude.{OnOk, MatchResult, MatchOption, Some, None, Ok, Err};
 ghost use Rattle.std.specs.Str.{IsUtf8, is_utf8};
 ghost use Rattle.json.specs.Json.{document};
@@ -129,11 +129,33 @@ fn is_read(family: Family, name: &str) -> bool
     }
 }
 
-/// Whether objects of a name say nothing of packets by themselves.
+/// Whether a name is that of a family of tables.
+fn is_family(name: &str) -> bool
+    ensures { result ≡ listed.is_family name.now }
+{
+    name == "ip"
+        || name == "ip6"
+        || name == "inet"
+        || name == "arp"
+        || name == "bridge"
+        || name == "netdev"
+}
+
+/// The family of an object.
+fn family_in<'a>(said: &Value<'a>) -> Option<&'a str>
+    ensures { MatchOption result
+        (listed.family_in (value_view said.now) ≡ None)
+        (λ name. listed.family_in (value_view said.now) ≡ Some name.now) }
+{
+    let name = text_in("family", said)?;
+    if is_family(name) { Some(name) } else { None }
+}
+
+/// Whether objects of tables of a name say nothing of packets by themselves.
 fn is_silent(name: &str) -> bool
     ensures { result ≡ listed.is_silent name.now }
 {
-    name == "metainfo" || name == "set" || name == "map" || name == "counter"
+    name == "set" || name == "map" || name == "counter"
 }
 
 /// A chain. Those of other families have no part.
@@ -148,7 +170,7 @@ fn add_chain_object(
     ensures err { IfErr result (Refuses (listed.with_chain_object (question_of question.entry)
         chains.old.items (value_view said.now))) }
 {
-    let Some(family) = text_in("family", said) else {
+    let Some(family) = family_in(said) else {
         return Err(Stop::Faulty(ObjectKind::NoFamily));
     };
     if !is_read(question.asked.family, family) {
@@ -169,7 +191,7 @@ fn add_rule_object(
     ensures err { IfErr result (Refuses (listed.with_rule_object (setting_of setting.entry)
         chains.old.items (value_view said.now))) }
 {
-    let Some(family) = text_in("family", said) else {
+    let Some(family) = family_in(said) else {
         return Err(Stop::Faulty(ObjectKind::NoFamily));
     };
     if !is_read(setting.question.asked.family, family) {
@@ -178,17 +200,43 @@ fn add_rule_object(
     add_rule(alloc, setting, chains, family, said)
 }
 
-/// A table has no flags: one that is dormant has no packets.
-fn table_fault(said: &Value<'_>) -> Result<(), Stop>
-    ensures { MatchResult result
-        (λ _. listed.has_flags (value_view said.now) ≡ false)
-        (λ stop. (listed.has_flags (value_view said.now) ≡ true)
-        × (stop ≡ Stop.Faulty ObjectKind.BadTable)) }
+/// The fault of an object that has no family.
+fn silent_fault(said: &Value<'_>) -> Option<ObjectKind>
+    ensures { result ≡ listed.silent_fault (value_view said.now) }
 {
-    if said.get("flags").is_some() {
-        return Err(Stop::Faulty(ObjectKind::BadTable));
+    match family_in(said) {
+        Some(_) => None,
+        None => Some(ObjectKind::NoFamily),
     }
-    Ok(())
+}
+
+/// A table has a family, and no flags: one that is dormant has no packets.
+fn table_fault(said: &Value<'_>) -> Option<ObjectKind>
+    ensures { result ≡ listed.table_fault (value_view said.now) }
+{
+    if family_in(said).is_none() {
+        return Some(ObjectKind::NoFamily);
+    }
+    match said.get("flags") {
+        Some(_) => Some(ObjectKind::BadTable),
+        None => None,
+    }
+}
+
+/// The fault of an object that is no chain and no rule.
+fn other_fault(name: &str, said: &Value<'_>) -> Option<ObjectKind>
+    ensures { result ≡ listed.other_fault name.now (value_view said.now) }
+{
+    if name == "table" {
+        return table_fault(said);
+    }
+    if is_silent(name) {
+        return silent_fault(said);
+    }
+    if name == "metainfo" {
+        return None;
+    }
+    Some(ObjectKind::UnknownObject)
 }
 
 /// An object by its name.
@@ -207,13 +255,10 @@ fn add_named_object(
     match name {
         "rule" => add_rule_object(alloc, setting, chains, said),
         "chain" => add_chain_object(alloc, setting.question, chains, said),
-        "table" => table_fault(said),
-        _ => {
-            if is_silent(name) {
-                return Ok(());
-            }
-            Err(Stop::Faulty(ObjectKind::UnknownObject))
-        }
+        _ => match other_fault(name, said) {
+            Some(kind) => Err(Stop::Faulty(kind)),
+            None => Ok(()),
+        },
     }
 }
 
