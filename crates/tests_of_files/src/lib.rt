@@ -20,7 +20,7 @@
 //! | `ranks` | ranks by priorities and places |
 //! | `router_lists` | lists of Cisco IOS, and the packets that they decide |
 //! | `rule_files` | rule files as people write them, printed rules and lists |
-//! | `rulesets` | rulesets of nft, and the packets that they decide |
+//! | `rulesets`, `ruleset_sets` | rulesets of nft, and the packets that they decide |
 //! | `saved_lists` | lists of iptables-save, and the packets that they decide |
 //! | `stored` | rules that are stored |
 //! | `texts` | texts of addresses and numbers |
@@ -51,6 +51,8 @@ mod ranks;
 mod router_lists;
 #[cfg(test)]
 mod rule_files;
+#[cfg(test)]
+mod ruleset_sets;
 #[cfg(test)]
 mod rulesets;
 #[cfg(test)]

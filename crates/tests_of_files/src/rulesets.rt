@@ -117,13 +117,13 @@ const HOST: &str =
     }]}}]}";
 
 /// IPv4 packets, of which handles are asked.
-const HANDLES: Asked = Asked {
+pub(crate) const HANDLES: Asked = Asked {
     family: Family::Ip4,
     answers: Answers::Handle,
 };
 
 /// The rules of the chain of a place.
-fn rules_at(
+pub(crate) fn rules_at(
     rt: &impl Abort,
     alloc: Global,
     ruleset: (&str, usize),
@@ -147,7 +147,7 @@ fn rules_at(
 }
 
 /// The answer for a packet from port 9.
-fn decides(
+pub(crate) fn decides(
     rt: &impl Abort,
     rules: &RuleSet,
     protocol: u8,
