@@ -39,6 +39,41 @@ class Rules:
         left = draws_nft.payload(transport, self.draw.choice(["sport", "dport"]))
         return self.compared(left, ["==", "!="], draws_nft.some(self.draw, PORTS))
 
+    def named(self, transport):
+        """A comparison with a named set."""
+        left, name = self.draw.choice([(draws_nft.payload(self.network, "saddr"), "@hosts"),
+                                       (draws_nft.payload(self.network, "daddr"), "@hosts"),
+                                       (draws_nft.payload(transport, "dport"), "@ports")])
+        return self.compared(left, ["==", "!="], name)
+
+    def elements(self):
+        """Elements of an address and a port, or of two addresses and a protocol."""
+        address = lambda: self.draw.choice(draws_nft.ADDRESSES[self.network])
+        if self.draw.random() < 0.3:
+            return [{"concat": [address(), address(), protocol]} for protocol in self.draw.sample(PROTOCOLS, 2)]
+        return [{"concat": [address(), port]} for port in self.draw.sample(PORTS, 2)]
+
+    def together(self, transport):
+        """A comparison of several things together."""
+        found = self.draw.choice(["@pairs", {"set": self.elements()}])
+        several = {3: [draws_nft.payload(self.network, "saddr"), draws_nft.payload(self.network, "daddr"),
+                       {"meta": {"key": "l4proto"}}],
+                   2: [draws_nft.payload(self.network, "saddr"), draws_nft.payload(transport, "dport")]}
+        parts = 2 if found == "@pairs" else len(found["set"][0]["concat"])
+        return draws_nft.comparison({"concat": several[parts]}, "==", found)
+
+    def sets(self, of, handles):
+        """The named sets."""
+        kind = {"ip": "ipv4_addr", "ip6": "ipv6_addr"}[self.network]
+        addresses = self.draw.sample(draws_nft.ADDRESSES[self.network], 2)
+        commented = [{"elem": {"val": addresses[0], "comment": "x"}}, addresses[1]]
+        pairs = [{"concat": [address, port]} for address, port in zip(addresses, self.draw.sample(PORTS, 2))]
+        for name, kinds, found in (("hosts", kind, self.draw.choice([addresses, commented])),
+                                   ("ports", "inet_service", self.draw.choice([[], self.draw.sample(PORTS, 2)])),
+                                   ("pairs", [kind, "inet_service"], pairs)):
+            yield {"set": {**of, "name": name, "type": kinds, "handle": next(handles), "flags": ["interval"],
+                           **({"elem": found} if found else {})}}
+
     def assumed(self, _):
         """A comparison of what is assumed."""
         name = self.draw.choice(["eth0", "eth*", "lo", {"set": ["lo", "eth1"]}])
@@ -57,7 +92,8 @@ class Rules:
     def expression(self, later):
         """The statements of a rule."""
         transport = self.draw.choice(["tcp", "udp", "sctp"])
-        kinds = [self.field, self.field, self.port, self.port, self.assumed] + [self.other] * (self.table == "inet")
+        kinds = [self.field, self.field, self.port, self.port, self.assumed, self.named, self.together]
+        kinds += [self.other] * (self.table == "inet")
         found = [self.draw.choice(kinds)(transport) for _ in range(self.draw.randrange(4))]
         return found + draws_nft.verdict(self.draw, draws_nft.answers(self.table, self.network, transport), later)
 
@@ -70,6 +106,7 @@ def objects(draw, network):
     found.append({"chain": {**of, "name": "input", "handle": next(handles), "type": "filter", "hook": "input",
                             "prio": 0, "policy": draw.choice(["accept", "drop"])}})
     found += [{"chain": {**of, "name": name, "handle": next(handles)}} for name in chains[1:]]
+    found += rules.sets(of, handles)
     return found + [{"rule": {**of, "chain": chain, "handle": next(handles),
                               "expr": rules.expression(chains[place + 1:])}}
                     for place, chain in enumerate(chains) for _ in range(draw.randrange(1, 5))]
