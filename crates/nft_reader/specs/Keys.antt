@@ -3,7 +3,6 @@
 use Rattle.std.specs.Prelude.{ℕ, ◌==◌, Bool, true, false, if◌then◌else◌, codes}
 use Rattle.std.specs.Prelude.{List, [], ◌∷◌, ◌++◌, length, Option, Some, None, option_and_then}
 use Rattle.std.specs.Prelude.{Result, Ok, Err}
-use Rattle.std.specs.Option.{option_map}
 use Rattle.std.specs.Str.{bytes_eq}
 use Rattle.json.specs.Json.{Json}
 use Rattle.nft_reader.specs.declared.fault.RuleKind.{RuleKind}
@@ -15,11 +14,14 @@ use Rattle.iptables_reader.specs.Packets.{all_packets, meets, with_span}
 use Rattle.nft_reader.specs.declared.compared.Left.{Left}
 use Rattle.nft_reader.specs.declared.compared.Left.TheVariants as left
 use Rattle.nft_reader.specs.declared.compared.Part.TheVariants as part
+use Rattle.nft_reader.specs.declared.compared.Operator.TheVariants as operator
+use Rattle.nft_reader.specs.Assumed.{interface_met, state_met, state_values}
 use Rattle.nft_reader.specs.Boxes.{number_boxes, part_boxes}
 use Rattle.nft_reader.specs.Compared.{family_met, left_of}
+use Rattle.nft_reader.specs.Known.{Question}
 use Rattle.nft_reader.specs.Results.{◌>>=◌, or_cant}
 use Rattle.nft_reader.specs.Shapes.{items_of, only}
-use Rattle.nft_reader.specs.Values.{bare_element}
+use Rattle.nft_reader.specs.Values.{bare_element, elements_of}
 
 -- packets of a protocol
 abbrev pub protocol_packets : Family → ℕ → Packets
@@ -31,58 +33,90 @@ abbrev pub truth_boxes : Family → Bool → List Packets
 truth_boxes family true = all_packets family ∷ []
 truth_boxes family false = []
 
--- the packets of which the left side is an element
-abbrev pub left_boxes : Family → Left → Json → Option (List Packets)
-left_boxes family (left.Plain which) value = part_boxes family (part.Number which) (value ∷ [])
-left_boxes family (left.Address which) value = part_boxes family (part.Address which) (value ∷ [])
-left_boxes family (left.Ports number which) value =
+-- the same if something is true, or why that isn't known
+abbrev pub met_boxes : Family → Result Bool RuleKind → Result (List Packets) RuleKind
+met_boxes family met = met >>= λ is_so. Ok (truth_boxes family is_so)
+
+-- the packets of which a field of the header is an element
+abbrev pub field_boxes : Family → Left → Json → Option (List Packets)
+field_boxes family (left.Plain which) value = part_boxes family (part.Number which) (value ∷ [])
+field_boxes family (left.Address which) value = part_boxes family (part.Address which) (value ∷ [])
+field_boxes family (left.Ports number which) value =
     number_boxes (protocol_packets family number) which (value ∷ [])
-left_boxes family left.OtherFamily value = Some []
-left_boxes family left.Nfproto value = option_map (truth_boxes family) (family_met family value)
-left_boxes family (left.Interface which manner) value = None
-left_boxes family left.State value = None
+field_boxes family left.OtherFamily value = Some []
+field_boxes family left.Nfproto value = None
+field_boxes family (left.Interface which manner) value = None
+field_boxes family left.State value = None
+
+-- the left side is an element, if that is so of all packets or of none
+abbrev pub met_of : Question → Left → Json → Option (Result Bool RuleKind)
+met_of question (left.Plain which) value = None
+met_of question (left.Address which) value = None
+met_of question (left.Ports number which) value = None
+met_of question left.OtherFamily value = None
+met_of question left.Nfproto value = Some (or_cant (family_met question.asked.family value))
+met_of question (left.Interface which manner) value =
+    Some (interface_met question.assumed which manner (elements_of value))
+met_of question left.State value =
+    Some (state_met question.assumed (state_values operator.Equal value))
+
+-- the packets of which it is one, by these
+abbrev pub left_by : Family → Option (List Packets) → Option (Result Bool RuleKind) →
+    Result (List Packets) RuleKind
+left_by family boxes None = or_cant boxes
+left_by family boxes (Some met) = met_boxes family met
+
+-- the packets of which the left side is an element
+abbrev pub left_boxes : Question → Left → Json → Result (List Packets) RuleKind
+left_boxes question side value =
+    left_by question.asked.family (field_boxes question.asked.family side value)
+    (met_of question side value)
 
 -- the packets of which one thing is an element
-abbrev pub thing_boxes : Family → Json → Json → Result (List Packets) RuleKind
-thing_boxes family key value =
-    or_cant (left_of family key) >>= λ side. or_cant (left_boxes family side value)
+abbrev pub thing_boxes : Question → Json → Json → Result (List Packets) RuleKind
+thing_boxes question key value =
+    or_cant (left_of question.asked.family key) >>= λ side. left_boxes question side value
 
 -- the packets of which each thing is its part of an element, among those of some boxes
-unfoldable pub parts_boxes : Family → List Packets → List Json → List Json →
+unfoldable pub parts_boxes : Question → List Packets → List Json → List Json →
     Result (List Packets) RuleKind
-parts_boxes family boxes [] values = Ok boxes
-parts_boxes family boxes (key ∷ keys) [] = Err kind.CantSay
-parts_boxes family boxes (key ∷ keys) (value ∷ values) =
-    thing_boxes family key value >>= λ more. parts_boxes family (meets boxes more) keys values
+parts_boxes question boxes [] values = Ok boxes
+parts_boxes question boxes (key ∷ keys) [] = Err kind.CantSay
+parts_boxes question boxes (key ∷ keys) (value ∷ values) =
+    thing_boxes question key value >>= λ more. parts_boxes question (meets boxes more) keys values
 
 -- an element has a part for each thing that is taken together
-abbrev pub concat_boxes : Family → List Json → List Json → Result (List Packets) RuleKind
-concat_boxes family keys values =
-    if length keys == length values then parts_boxes family (all_packets family ∷ []) keys values
+abbrev pub concat_boxes : Question → List Json → List Json → Result (List Packets) RuleKind
+concat_boxes question keys values =
+    if length keys == length values
+    then parts_boxes question (all_packets question.asked.family ∷ []) keys values
     else Err kind.CantSay
 
--- the parts of what is taken together
+-- the parts of what is taken together, by the name of a member
 abbrev pub concat_named : List ℕ → Json → Option (List Json)
 concat_named name said = if bytes_eq name (codes "concat") then items_of said else None
 
+-- the parts of what is taken together
 abbrev pub concat_of : Json → Option (List Json)
 concat_of value = option_and_then (λ found. concat_named found.0 found.1) (only value)
 
--- the packets of which a key is an element: one thing, or several
-abbrev pub key_by : Family → Json → Json → Option (List Json) → Result (List Packets) RuleKind
-key_by family key value None = concat_boxes family (key ∷ []) (value ∷ [])
-key_by family key value (Some keys) = or_cant (concat_of value) >>= concat_boxes family keys
+-- the packets of which a key is an element, by what it takes together
+abbrev pub key_by : Question → Json → Json → Option (List Json) → Result (List Packets) RuleKind
+key_by question key value None = concat_boxes question (key ∷ []) (value ∷ [])
+key_by question key value (Some keys) = or_cant (concat_of value) >>= concat_boxes question keys
 
-abbrev pub key_boxes : Family → Json → Json → Result (List Packets) RuleKind
-key_boxes family key value = key_by family key value (concat_of key)
+-- the packets of which a key is an element: one thing, or several
+abbrev pub key_boxes : Question → Json → Json → Result (List Packets) RuleKind
+key_boxes question key value = key_by question key value (concat_of key)
 
 -- the same of an element that may have a counter and a comment
-abbrev pub element_boxes : Family → Json → Json → Result (List Packets) RuleKind
-element_boxes family key element = or_cant (bare_element element) >>= key_boxes family key
+abbrev pub element_boxes : Question → Json → Json → Result (List Packets) RuleKind
+element_boxes question key element = or_cant (bare_element element) >>= key_boxes question key
 
 -- the packets of which a key is one of some elements, after other boxes
-unfoldable pub elements_boxes : Family → Json → List Packets → List Json →
+unfoldable pub elements_boxes : Question → Json → List Packets → List Json →
     Result (List Packets) RuleKind
-elements_boxes family key boxes [] = Ok boxes
-elements_boxes family key boxes (element ∷ elements) =
-    element_boxes family key element >>= λ more. elements_boxes family key (boxes ++ more) elements
+elements_boxes question key boxes [] = Ok boxes
+elements_boxes question key boxes (element ∷ elements) =
+    element_boxes question key element >>= λ more.
+    elements_boxes question key (boxes ++ more) elements

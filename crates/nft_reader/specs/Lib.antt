@@ -7,11 +7,15 @@ pub mod Boxes
 pub mod Chains
 pub mod Sets
 pub mod Assumed
-pub mod Keys
+pub mod Comparisons
 pub mod Counted
 pub mod Known
+pub mod Keys
+pub mod Named
+pub mod Maps
 pub mod Readings
 pub mod Ruleset
 pub mod Stops
 pub mod RulesetExamples
 pub mod SetsExamples
+pub mod MapsExamples

@@ -1,8 +1,9 @@
 -- A rule, statement by statement (libnftables-json(5), "STATEMENTS"). Its comparisons say which
 -- packets it catches, and its last statement what becomes of them. A statement that isn't known
 -- here isn't passed over: the rule then isn't said.
-use Rattle.std.specs.Prelude.{ℕ, ◌==◌, Bool, true, false, is_some, not, if◌then◌else◌, codes}
-use Rattle.std.specs.Prelude.{List, [], ◌∷◌, Option, Some, None, option_and_then, Result, Ok, Err}
+use Rattle.std.specs.Prelude.{ℕ, ◌==◌, Bool, true, false, ◌||◌, is_some, not, if◌then◌else◌, codes}
+use Rattle.std.specs.Prelude.{List, [], ◌∷◌, ◌++◌, Option, Some, None, option_and_then}
+use Rattle.std.specs.Prelude.{Result, Ok, Err}
 use Rattle.std.specs.Borrow.{Bor}
 use Rattle.std.specs.Str.{bytes_eq}
 use Rattle.json.specs.Json.{Json}
@@ -10,42 +11,53 @@ use Rattle.json.specs.Find.{get}
 use Rattle.nft_reader.specs.declared.fault.RuleKind.{RuleKind}
 use Rattle.nft_reader.specs.declared.fault.RuleKind.TheVariants as kind
 use Rattle.field_defs.specs.declared.field.Family.{Family}
-use Rattle.field_defs.specs.declared.field.Family.TheVariants as family
 use Rattle.iptables_reader.specs.declared.packets.Packets.{Packets}
-use Rattle.iptables_reader.specs.Packets.{CaughtBoxes, all_caught, never, with_boxes}
 use Rattle.nft_reader.specs.declared.compared.Left.{Left}
 use Rattle.nft_reader.specs.declared.compared.Left.TheVariants as left
 use Rattle.nft_reader.specs.declared.compared.Operator.{Operator}
 use Rattle.nft_reader.specs.declared.compared.Part.{Part}
 use Rattle.nft_reader.specs.declared.compared.Part.TheVariants as part
-use Rattle.nft_reader.specs.declared.sets.Form.{Form}
 use Rattle.nft_reader.specs.declared.sets.Form.TheVariants as form
 use Rattle.nft_reader.specs.declared.reading.Verdict.{Verdict}
 use Rattle.nft_reader.specs.declared.reading.Verdict.TheVariants as verdict
 use Rattle.nft_reader.specs.declared.reading.Act.{Act}
 use Rattle.nft_reader.specs.declared.reading.Act.TheVariants as act
-use Rattle.nft_reader.specs.Chains.{place_of}
+use Rattle.nft_reader.specs.declared.maps.Branch.{Branch}
 use Rattle.nft_reader.specs.Assumed.{interface_met, state_met, state_values}
 use Rattle.nft_reader.specs.Boxes.{part_boxes}
-use Rattle.nft_reader.specs.Compared.{MatchSides, family_met, is_negated, is_turned, operator_of}
-use Rattle.nft_reader.specs.Compared.{sides_of}
+use Rattle.nft_reader.specs.Compared.{MatchSides, family_met, is_negated, is_of, is_turned}
+use Rattle.nft_reader.specs.Compared.{operator_of, sides_of}
+use Rattle.nft_reader.specs.Comparisons.{ComparedBoxes}
 use Rattle.nft_reader.specs.Keys.{concat_of, elements_boxes, protocol_packets}
 use Rattle.nft_reader.specs.Known.{Known}
+use Rattle.nft_reader.specs.Maps.{looked_up}
+use Rattle.nft_reader.specs.Named.{known_elements, led_place, target_of}
 use Rattle.nft_reader.specs.Results.{◌>>=◌, or_cant}
-use Rattle.nft_reader.specs.Sets.{elements_in}
 use Rattle.nft_reader.specs.Shapes.{len_of, only, text_in}
 use Rattle.nft_reader.specs.Values.{elements_of, first_of}
 
--- what a rule says so far: which packets it catches, why no rule file says it, and what becomes of
--- the packets
+-- what a rule says so far: what it compares, why no rule file says it, what becomes of its packets,
+-- and what of those of the elements of a map, after which nothing may stand
 pub record ReadRule : Type 0 where
-  pub caught : CaughtBoxes
+  pub compared : List ComparedBoxes
   pub cause : Option RuleKind
   pub act : Option Act
+  pub branches : List Branch
+  pub looked : Bool
 
--- nothing was read of a rule for packets of a family
-abbrev pub no_reading : Family → ReadRule
-no_reading family = record { caught = all_caught family; cause = None; act = None }
+-- nothing was read of a rule
+abbrev pub no_reading : ReadRule
+no_reading = record {
+  compared = [];
+  cause = None;
+  act = None;
+  branches = [];
+  looked = false;
+}
+
+-- packets may be decided by it: it has a verdict or a map
+abbrev pub decides : ReadRule → Bool
+decides reading = is_some reading.act || reading.looked
 
 -- a cause why no rule file says it, of which the first counts
 abbrev pub with_cause : RuleKind → ReadRule → ReadRule
@@ -60,7 +72,9 @@ with_act does reading = record reading { act = Some does }
 -- packets in one of some boxes, or after `!=` in none
 abbrev pub with_packets : Bool → List Packets → ReadRule → ReadRule
 with_packets negated boxes reading =
-    record reading { caught = with_boxes negated boxes reading.caught }
+    record reading {
+      compared = reading.compared ++ record { negated = negated; boxes = boxes } ∷ [];
+    }
 
 -- packets of a protocol
 abbrev pub of_protocol : Family → ℕ → ReadRule → ReadRule
@@ -69,7 +83,11 @@ of_protocol family number reading =
 
 -- none of the packets
 abbrev pub of_none : ReadRule → ReadRule
-of_none reading = record reading { caught = never reading.caught }
+of_none reading = with_packets false [] reading
+
+-- all of the packets, or none
+abbrev pub of_truth : Bool → ReadRule → ReadRule
+of_truth is_so reading = if is_so then reading else of_none reading
 
 -- a comparison that boxes of packets meet, if they are known
 abbrev pub with_found : ReadRule → Bool → Option (List Packets) → ReadRule
@@ -81,10 +99,6 @@ abbrev pub with_these : Family → Part → ReadRule → Bool → Result (List J
 with_these family which reading negated (Err why) = with_cause why reading
 with_these family which reading negated (Ok elements) =
     with_found reading negated (part_boxes family which elements)
-
--- the elements that a value has, or those of the set of values that it names
-abbrev pub known_elements : Known → Form → Json → Result (List Json) RuleKind
-known_elements known wanted value = elements_in wanted known.owner known.sets value
 
 -- the same with the right side, if the comparison is one for equality
 abbrev pub with_right : Known → Part → Json → ReadRule → Option Bool → ReadRule
@@ -103,7 +117,7 @@ abbrev pub with_met : ReadRule → Option Bool → Result Bool RuleKind → Read
 with_met reading None met = with_cause kind.CantSay reading
 with_met reading (Some negated) (Err why) = with_cause why reading
 with_met reading (Some negated) (Ok met) =
-    if (if negated then not met else met) then reading else of_none reading
+    of_truth (if negated then not met else met) reading
 
 -- a comparison by its left side
 abbrev pub with_side : Known → Left → Operator → Json → ReadRule → ReadRule
@@ -131,11 +145,12 @@ with_sides known reading None = with_cause kind.CantSay reading
 with_sides known reading (Some sides) =
     with_side known sides.side sides.operator sides.right reading
 
--- several things together, as the left side of a comparison
+-- a key that takes several things together
 abbrev pub together_by : Json → Option (List Json) → Option Json
 together_by key None = None
 together_by key (Some keys) = Some key
 
+-- several things together, as the left side of a comparison
 abbrev pub together_in : Json → Option Json
 together_in said =
     option_and_then (λ key. together_by key (concat_of key)) (get (codes "left") said)
@@ -144,7 +159,7 @@ together_in said =
 abbrev pub elements_together : Known → Json → Json → Result (List Packets) RuleKind
 elements_together known key right =
     known_elements known form.Values right
-    >>= elements_boxes known.question.asked.family key []
+    >>= elements_boxes known.question key []
 
 -- that they are others isn't said
 abbrev pub if_equal : Option Bool → Result (List Packets) RuleKind → Result (List Packets) RuleKind
@@ -182,24 +197,16 @@ with_match known said reading = with_compared known said reading (together_in sa
 abbrev pub decided : Verdict → ReadRule → ReadRule
 decided says reading = with_act (act.Decide says) reading
 
--- packets of IPv4, if a family is
-abbrev pub of_ip4 : Family → ReadRule → ReadRule
-of_ip4 family.Ip4 reading = reading
-of_ip4 family.Ip6 reading = of_none reading
-
--- packets of IPv6
-abbrev pub of_ip6 : Family → ReadRule → ReadRule
-of_ip6 family.Ip4 reading = of_none reading
-of_ip6 family.Ip6 reading = reading
-
 -- An answer to the sender by its type: a reset of TCP is one for packets of TCP alone, and a
 -- message of ICMP one for those of its family, although the list doesn't show these comparisons.
 abbrev pub rejected_by : Family → ReadRule → Option (List ℕ) → Result ReadRule RuleKind
 rejected_by family reading None = Err kind.BadStatement
 rejected_by family reading (Some type) =
     if bytes_eq type (codes "icmpx") then Ok (decided verdict.Reject reading)
-    else (if bytes_eq type (codes "icmp") then Ok (decided verdict.Reject (of_ip4 family reading))
-    else (if bytes_eq type (codes "icmpv6") then Ok (decided verdict.Reject (of_ip6 family reading))
+    else (if bytes_eq type (codes "icmp")
+    then Ok (decided verdict.Reject (of_truth (is_of family true) reading))
+    else (if bytes_eq type (codes "icmpv6")
+    then Ok (decided verdict.Reject (of_truth (is_of family false) reading))
     else (if bytes_eq type (codes "tcp reset")
     then Ok (decided verdict.Reject (of_protocol family 6 reading)) else Err kind.BadStatement)))
 
@@ -214,21 +221,6 @@ rejected family said reading =
     if len_of said == 0 then Ok (decided verdict.Reject reading)
     else rejected_by family reading (text_in (codes "type") said)
 
--- the chain of the same table that a jump names
-abbrev pub target_of : Json → Option (List ℕ)
-target_of said = if len_of said == 1 then text_in (codes "target") said else None
-
--- the place of the chain that is led to: packets don't come to it by themselves
-abbrev pub led_found : Option ℕ → Result ℕ RuleKind
-led_found None = Err kind.NoTarget
-led_found (Some place) = Ok place
-
--- the place of the chain of a name
-abbrev pub led_place : Known → Option (List ℕ) → Result ℕ RuleKind
-led_place known None = Err kind.BadStatement
-led_place known (Some name) =
-    led_found (place_of true (record known.owner { name = name }) known.chains)
-
 -- ---- statements
 
 -- a statement that says nothing but its name
@@ -238,7 +230,8 @@ with_word name reading =
     else (if bytes_eq name (codes "log") then Ok reading
     else (if bytes_eq name (codes "continue") then Ok reading
     else (if bytes_eq name (codes "limit") then Ok (with_cause kind.Rate reading)
-    else Err kind.UnknownStatement)))
+    else (if bytes_eq name (codes "set") then Ok (with_cause kind.ChangingSet reading)
+    else Err kind.UnknownStatement))))
 
 -- a verdict, or such a statement
 abbrev pub with_verdict : List ℕ → ReadRule → Result ReadRule RuleKind
@@ -248,17 +241,29 @@ with_verdict name reading =
     else (if bytes_eq name (codes "return") then Ok (decided verdict.Return reading)
     else with_word name reading))
 
+-- what becomes of the packets of a map's elements
+abbrev pub with_map : Known → Json → ReadRule → Result ReadRule RuleKind
+with_map known said reading =
+    looked_up known said reading.compared >>= λ looked.
+    Ok (record reading { branches = looked.branches; looked = true })
+
+-- a jump, or another statement
+abbrev pub with_lead : Known → List ℕ → Json → ReadRule → Result ReadRule RuleKind
+with_lead known name said reading =
+    if bytes_eq name (codes "jump")
+    then (led_place known (target_of said) >>= λ place. Ok (with_act (act.Jump place) reading))
+    else (if bytes_eq name (codes "goto")
+    then (led_place known (target_of said) >>= λ place. Ok (with_act (act.Go place) reading))
+    else with_verdict name reading)
+
 -- a statement by its name and what it says
 abbrev pub with_named : Known → List ℕ → Json → ReadRule →
     Result ReadRule RuleKind
 with_named known name said reading =
     if bytes_eq name (codes "match") then Ok (with_match known said reading)
     else (if bytes_eq name (codes "reject") then rejected known.question.asked.family said reading
-    else (if bytes_eq name (codes "jump")
-    then (led_place known (target_of said) >>= λ place. Ok (with_act (act.Jump place) reading))
-    else (if bytes_eq name (codes "goto")
-    then (led_place known (target_of said) >>= λ place. Ok (with_act (act.Go place) reading))
-    else with_verdict name reading)))
+    else (if bytes_eq name (codes "vmap") then with_map known said reading
+    else with_lead known name said reading))
 
 -- a statement has one member
 abbrev pub with_only : Known → ReadRule → Option (List ℕ × Json) →
@@ -266,11 +271,11 @@ abbrev pub with_only : Known → ReadRule → Option (List ℕ × Json) →
 with_only known reading None = Err kind.BadStatement
 with_only known reading (Some found) = with_named known found.0 found.1 reading
 
--- a statement, which doesn't stand after one that decides
+-- a statement, which doesn't stand after one that decides, or after a map
 abbrev pub with_statement : Known → ReadRule → Json →
     Result ReadRule RuleKind
 with_statement known reading statement =
-    if is_some reading.act then Err kind.AfterVerdict
+    if decides reading then Err kind.AfterVerdict
     else with_only known reading (only statement)
 
 -- the statements of a rule

@@ -11,7 +11,8 @@ use Rattle.json.specs.Json.{Json, document}
 use Rattle.json.specs.Find.{get}
 use Rattle.field_defs.specs.declared.field.Family.{Family}
 use Rattle.field_defs.specs.declared.field.Family.TheVariants as family
-use Rattle.iptables_reader.specs.Packets.{all_caught, rules_of_caught}
+use Rattle.std.specs.List.{flat_map}
+use Rattle.iptables_reader.specs.Packets.{CaughtBoxes, all_caught, rules_of_caught}
 use Rattle.list_chains.specs.declared.span.Span.{Span}
 use Rattle.list_chains.specs.declared.chain.Target.{Target}
 use Rattle.list_chains.specs.declared.chain.Target.TheVariants as target
@@ -24,14 +25,16 @@ use Rattle.nft_reader.specs.declared.reading.Verdict.{Verdict}
 use Rattle.nft_reader.specs.declared.reading.Verdict.TheVariants as verdict
 use Rattle.nft_reader.specs.declared.reading.Act.{Act}
 use Rattle.nft_reader.specs.declared.reading.Act.TheVariants as act
+use Rattle.nft_reader.specs.declared.maps.Branch.{Branch}
 use Rattle.nft_reader.specs.declared.known.Answers.{Answers}
 use Rattle.nft_reader.specs.declared.known.Answers.TheVariants as answers
 use Rattle.nft_reader.specs.declared.known.Asked.{Asked}
 use Rattle.nft_reader.specs.declared.ruleset.TheConstants.{MAX_RULESET}
 use Rattle.nft_reader.specs.Chains.{ListedChain, Names, no_chain, place_of}
+use Rattle.nft_reader.specs.Comparisons.{caught_by}
 use Rattle.nft_reader.specs.Known.{Question, Setting}
 use Rattle.nft_reader.specs.Results.{◌>>=◌}
-use Rattle.nft_reader.specs.Readings.{ReadRule, no_reading, with_statements}
+use Rattle.nft_reader.specs.Readings.{ReadRule, decides, no_reading, with_statements}
 use Rattle.nft_reader.specs.Sets.{sets_in}
 use Rattle.nft_reader.specs.Shapes.{items_in, items_of, len_of, number_in, only, text_in}
 
@@ -91,20 +94,33 @@ abbrev pub with_fault : ℕ → RuleKind → ListedChain → ListedChain
 with_fault handle why chain =
     record chain { faults = chain.faults ++ record { handle = handle; kind = why } ∷ [] }
 
--- a rule does what it says, unless there is a cause why no rule file says it
-abbrev pub with_done : Asked → ℕ → ReadRule → Act → Option RuleKind → ListedChain → ListedChain
-with_done asked handle reading does None chain =
-    more_rules (rules_of_caught asked.family reading.caught (act_answer asked.answers handle does)
-    (act_target does)) chain
-with_done asked handle reading does (Some why) chain =
-    with_fault handle why
-    (more_rules (rules_of_caught asked.family reading.caught handle nowhere) chain)
+-- the rules of packets of which something becomes
+abbrev pub acted_rules : Asked → ℕ → CaughtBoxes → Act → List (ListRule (List Span))
+acted_rules asked handle caught does =
+    rules_of_caught asked.family caught (act_answer asked.answers handle does) (act_target does)
 
--- a rule without a verdict does nothing: the next one decides
-abbrev pub with_said : Asked → ℕ → ReadRule → Option Act → ListedChain → ListedChain
-with_said asked handle reading None chain = chain
-with_said asked handle reading (Some does) chain =
-    with_done asked handle reading does reading.cause chain
+-- those of a branch
+abbrev pub branch_rules : Asked → ℕ → Branch → List (ListRule (List Span))
+branch_rules asked handle branch = acted_rules asked handle branch.caught branch.act
+
+-- a rule does what its verdict says, or else what the branches of its map do
+abbrev pub read_rules : Asked → ℕ → ReadRule → Option Act → List (ListRule (List Span))
+read_rules asked handle reading None = flat_map (branch_rules asked handle) reading.branches
+read_rules asked handle reading (Some does) =
+    acted_rules asked handle (caught_by asked.family reading.compared) does
+
+-- it does so, unless there is a cause why no rule file says it
+abbrev pub with_done : Asked → ℕ → ReadRule → Option RuleKind → ListedChain → ListedChain
+with_done asked handle reading None chain =
+    more_rules (read_rules asked handle reading reading.act) chain
+with_done asked handle reading (Some why) chain =
+    with_fault handle why (more_rules (rules_of_caught asked.family
+    (caught_by asked.family reading.compared) handle nowhere) chain)
+
+-- a rule without a verdict and without a map does nothing: the next one decides
+abbrev pub with_said : Asked → ℕ → ReadRule → ListedChain → ListedChain
+with_said asked handle reading chain =
+    if decides reading then with_done asked handle reading reading.cause chain else chain
 
 -- a rule that isn't read, of which nothing is known
 abbrev pub with_unread : Family → ℕ → RuleKind → ListedChain → ListedChain
@@ -114,7 +130,7 @@ with_unread family handle why chain =
 
 -- a rule that was read, or why it isn't
 abbrev pub with_read : Asked → ℕ → Result ReadRule RuleKind → ListedChain → ListedChain
-with_read asked handle (Ok reading) chain = with_said asked handle reading reading.act chain
+with_read asked handle (Ok reading) chain = with_said asked handle reading chain
 with_read asked handle (Err why) chain = with_unread asked.family handle why chain
 
 -- a part of an object that is there, or else its fault
@@ -169,7 +185,7 @@ with_rule_at setting parts chains place =
       chains = chains;
       owner = parts.owner;
     })
-    (no_reading setting.question.asked.family) parts.statements)
+    no_reading parts.statements)
     (slice_index_or chains place no_chain))
 
 -- the chains with a rule, whose chain stands before it

@@ -65,6 +65,7 @@ named_changes owner None = false
 named_changes owner (Some found) =
     if bytes_eq found.0 (codes "rule") then rule_changes owner found.1 else false
 
+-- an object is such a rule
 abbrev pub object_changes : Names → Json → Bool
 object_changes owner value = named_changes owner (only value)
 
@@ -78,11 +79,12 @@ is_changed objects owner = list_any (object_changes owner) objects
 abbrev pub is_kept_flag : List ℕ → Bool
 is_kept_flag flag = bytes_eq flag (codes "interval") || bytes_eq flag (codes "constant")
 
--- a value is such a flag
+-- a text is there, and such a flag
 abbrev pub is_kept_text : Option (List ℕ) → Bool
 is_kept_text None = false
 is_kept_text (Some flag) = is_kept_flag flag
 
+-- a value is such a flag
 abbrev pub is_kept_value : Json → Bool
 is_kept_value value = is_kept_text (as_str value)
 
@@ -114,11 +116,12 @@ known_members said =
 abbrev pub has_set_members : Json → Bool
 has_set_members said = len_of said == 3 + known_members said
 
--- the elements that are listed; an empty set lists none
+-- the elements of a member that lists them; without it there are none
 abbrev pub elements_if : Option Json → Option (List Json)
 elements_if None = Some []
 elements_if (Some value) = items_of value
 
+-- the elements that are listed; an empty set lists none
 abbrev pub listed_elements : Json → Option (List Json)
 listed_elements said = elements_if (get (codes "elem") said)
 
@@ -155,11 +158,12 @@ set_of set = record {
   elements = elements_seen set.elements;
 }
 
--- what objects of a name have: a map is one to verdicts
+-- what maps of a type have: those to verdicts are known
 abbrev pub map_form : Option (List ℕ) → Option Form
 map_form None = None
 map_form (Some type) = if bytes_eq type (codes "verdict") then Some form.Verdicts else None
 
+-- what objects of a name have
 abbrev pub form_of : List ℕ → Json → Option Form
 form_of name said =
     if bytes_eq name (codes "set") then Some form.Values
@@ -174,7 +178,7 @@ set_names said =
     (text_in (codes "table") said))
     (text_in (codes "family") said)
 
--- the set of an object that has one
+-- a set of this form, if it has names
 abbrev pub set_said : List Json → Json → Form → Option ListedSet
 set_said objects said has =
     option_map (λ owner. record {
@@ -183,11 +187,13 @@ set_said objects said has =
       elements = set_elements objects owner said;
     }) (set_names said)
 
+-- a set by the only member of an object, if it has one
 abbrev pub set_named : List Json → Option (List ℕ × Json) → Option ListedSet
 set_named objects None = None
 set_named objects (Some found) =
     option_and_then (set_said objects found.1) (form_of found.0 found.1)
 
+-- the set of an object that has one
 abbrev pub set_object : List Json → Json → Option ListedSet
 set_object objects value = set_named objects (only value)
 
@@ -227,11 +233,12 @@ named_elements wanted owner sets name =
 abbrev pub named_in : Json → Option (List ℕ)
 named_in value = option_and_then at_name (as_str value)
 
--- the elements of a set that a value names, or that it has
+-- the elements of the set of a name, or those that a value has
 abbrev pub elements_by_name : Form → Names → List ListedSet → Json → Option (List ℕ) →
     Result (List Json) RuleKind
 elements_by_name wanted owner sets value None = or_cant (elements_of value)
 elements_by_name wanted owner sets value (Some name) = named_elements wanted owner sets name
 
+-- the elements of a set that a value names, or that it has
 abbrev pub elements_in : Form → Names → List ListedSet → Json → Result (List Json) RuleKind
 elements_in wanted owner sets value = elements_by_name wanted owner sets value (named_in value)

@@ -122,9 +122,7 @@ adds_to_blocked =
 a_set_that_a_rule_changes :
     read (codes "{\"nftables\": [" ++ set_of (codes ", \"elem\": [\"10.0.0.1\"]") ++ the_chain
     ++ rule_of drops_blocked ++ codes ", " ++ adds_to_blocked ++ codes "]}")
-    ≡ with_rules (unsaid ∷ record unsaid { userdata = 8 } ∷ [])
-    (record { handle = 7; kind = kind.ChangingSet }
-    ∷ record { handle = 8; kind = kind.UnknownStatement } ∷ [])
+    ≡ with_rules (unsaid ∷ []) (record { handle = 7; kind = kind.ChangingSet } ∷ [])
 unfolding json_on_literals with_statements with_objects gathered digits
 a_set_that_a_rule_changes = refl
 

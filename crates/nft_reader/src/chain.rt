@@ -1,12 +1,15 @@
 //! A chain of a ruleset: its name, its policy and its rules.
 
-ghost use Rattle.std.specs.Prelude.{◌≡◌, ◌<◌, ◌≤◌, length, map, IfOk, IfSome};
+ghost use Rattle.std.specs.Prelude.{◌≡◌, ◌++◌, ◌<◌, ◌≤◌, length, map, IfOk, IfSome, OnOk};
+ghost use Rattle.std.specs.List.{flat_map};
 ghost use Rattle.nft_reader.specs.Chains.{names_of, place_of, start_from, start_of};
 ghost use Rattle.nft_reader.specs.Ruleset.{act_answer, act_target, answer_of, nowhere};
-ghost use Rattle.nft_reader.specs.Ruleset.{verdict_answer};
+ghost use Rattle.nft_reader.specs.Ruleset.{acted_rules, branch_rules, read_rules, verdict_answer};
 
+use crate::comparison::caught_by;
 use crate::fault::{RuleFault, RuleKind, StartFault};
 use crate::known::{Answers, Asked};
+use crate::maps::Branch;
 use crate::reading::{Act, Reading, Verdict};
 use field_defs::Family;
 use iptables_reader::{Caught, put_rules};
@@ -135,24 +138,17 @@ impl NftChain {
         handle: u32,
         reading: &Reading,
     ) -> Result<(), AllocError>
-        ensures { OnOk result
-            (self.new ≡ with_said asked handle reading.now reading.now.act self.old) }
+        ensures { OnOk result (self.new ≡ with_said asked handle reading.now self.old) }
     {
-        let Some(act) = reading.act else {
+        if !reading.decides() {
             return Ok(());
-        };
+        }
         match reading.cause {
-            None => {
-                let answer = act_answer(asked.answers, handle, act);
-                self.put_rules(
-                    alloc,
-                    asked.family,
-                    &reading.caught,
-                    answer,
-                    act_target(act),
-                )
+            None => put_read(alloc, asked, handle, reading, &mut self.rules),
+            Some(kind) => {
+                let caught = caught_by(alloc, asked.family, &reading.compared)?;
+                self.put_fault(alloc, asked.family, handle, kind, &caught)
             }
-            Some(kind) => self.put_fault(alloc, asked.family, handle, kind, &reading.caught),
         }
     }
 
@@ -182,24 +178,10 @@ impl NftChain {
         ensures { OnOk result (self.new ≡ with_fault handle kind
             (more_rules (rules_of_caught family caught.now handle nowhere) self.old)) }
     {
-        self.put_rules(alloc, family, caught, handle, Target::Jump(usize::MAX))?;
+        let target = Target::Jump(usize::MAX);
+        put_rules(alloc, family, caught, handle, target, &mut self.rules)?;
         self.faults.push(RuleFault { handle, kind })?;
         Ok(())
-    }
-
-    /// Puts the rules of a rule after the others.
-    fn put_rules(
-        &mut self,
-        alloc: Global,
-        family: Family,
-        caught: &Caught,
-        userdata: u32,
-        target: Target,
-    ) -> Result<(), AllocError>
-        ensures { OnOk result
-            (self.new ≡ more_rules (rules_of_caught family caught.now userdata target) self.old) }
-    {
-        put_rules(alloc, family, caught, userdata, target, &mut self.rules)
     }
 
     /// The rules alone, as a chain.
@@ -207,6 +189,59 @@ impl NftChain {
         ensures { result ≡ self.rules }
     {
         Chain::new(self.rules)
+    }
+}
+
+/// Puts the rules of packets of which something becomes after others.
+fn put_acted(
+    alloc: Global,
+    asked: Asked,
+    handle: u32,
+    caught: &Caught,
+    act: Act,
+    rules: &mut Vec<ChainRule>,
+) -> Result<(), AllocError>
+    ensures { OnOk result
+        (rules.new.items ≡ rules.old.items ++ acted_rules asked handle caught.now act) }
+{
+    let answer = act_answer(asked.answers, handle, act);
+    put_rules(alloc, asked.family, caught, answer, act_target(act), rules)
+}
+
+/// Puts the rules of the branches of a map after others.
+fn put_branches(
+    alloc: Global,
+    asked: Asked,
+    handle: u32,
+    branches: &[Branch],
+    rules: &mut Vec<ChainRule>,
+) -> Result<(), AllocError>
+    ensures { OnOk result (rules.new.items
+        ≡ rules.old.items ++ flat_map (branch_rules asked handle) branches.now) }
+{
+    for branch in branches {
+        put_acted(alloc, asked, handle, &branch.caught, branch.act, rules)?;
+    }
+    Ok(())
+}
+
+/// Puts the rules of a rule after others.
+fn put_read(
+    alloc: Global,
+    asked: Asked,
+    handle: u32,
+    reading: &Reading,
+    rules: &mut Vec<ChainRule>,
+) -> Result<(), AllocError>
+    ensures { OnOk result (rules.new.items
+        ≡ rules.old.items ++ read_rules asked handle reading.now reading.now.act) }
+{
+    match reading.act {
+        Some(act) => {
+            let caught = caught_by(alloc, asked.family, &reading.compared)?;
+            put_acted(alloc, asked, handle, &caught, act, rules)
+        }
+        None => put_branches(alloc, asked, handle, &reading.branches, rules),
     }
 }
 

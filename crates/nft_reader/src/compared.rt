@@ -286,7 +286,7 @@ fn is_ip4(name: &str) -> Option<bool>
 }
 
 /// Whether it is IPv4, if the family is.
-fn is_of(family: Family, is_ip4: bool) -> bool
+pub(crate) fn is_of(family: Family, is_ip4: bool) -> bool
     ensures { result ≡ is_of family is_ip4 }
 {
     match family {

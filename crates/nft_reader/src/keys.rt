@@ -6,11 +6,14 @@ ghost use Rattle.std.specs.Prelude.{MatchResult, length};
 ghost use Rattle.json.specs.Value.{value_view};
 ghost use Rattle.iptables_reader.specs.Packets.{all_packets};
 ghost use Rattle.nft_reader.specs.Keys as keyed;
+ghost use Rattle.nft_reader.specs.Known.{question_of};
 ghost use Rattle.nft_reader.specs.Stops.{RefusesRule};
 
+use crate::assumed::{interface_met, state_met};
 use crate::boxes::{number_boxes, part_boxes};
-use crate::compared::{Left, Part, family_met, left_of};
+use crate::compared::{Left, Operator, Part, family_met, left_of};
 use crate::fault::{RuleKind, RuleStop};
+use crate::known::Question;
 use crate::shapes::{items_of, only};
 use crate::values::bare_element;
 use field_defs::Family;
@@ -46,33 +49,45 @@ fn truth_boxes(alloc: Global, family: Family, is_so: bool) -> Result<Vec<Packets
     Ok(boxes)
 }
 
-/// Packets of a family that a value names.
-fn family_boxes(
+/// All packets, or none, or why that isn't known.
+fn met_boxes(
     alloc: Global,
     family: Family,
-    value: &Value<'_>,
-) -> Result<Option<Vec<Packets>>, AllocError>
-    ensures { IfOk result (λ found. MatchOption found
-        (keyed.left_boxes family Left.Nfproto (value_view value.now) ≡ None)
-        (λ boxes. keyed.left_boxes family Left.Nfproto (value_view value.now)
-        ≡ Some boxes.items)) }
+    met: Result<bool, RuleKind>,
+) -> Result<Vec<Packets>, RuleStop>
+    ensures { MatchResult result
+        (λ boxes. keyed.met_boxes family met ≡ Ok boxes.items)
+        (RefusesRule (keyed.met_boxes family met)) }
 {
-    match family_met(family, value) {
-        Some(is_so) => Ok(Some(truth_boxes(alloc, family, is_so)?)),
-        None => Ok(None),
+    match met {
+        Ok(is_so) => Ok(truth_boxes(alloc, family, is_so)?),
+        Err(kind) => Err(RuleStop::Unsaid(kind)),
     }
 }
 
-/// The packets of which the left side is an element.
-fn left_boxes(
+/// Whether the left side is an element, if that is so of all packets or of none.
+fn met_of(question: Question<'_>, side: Left, value: &Value<'_>) -> Option<Result<bool, RuleKind>>
+    ensures { result ≡ keyed.met_of (question_of question.entry) side (value_view value.now) }
+{
+    let Question { asked, assumed } = question;
+    match side {
+        Left::Plain(_) | Left::Address(_) | Left::Ports(..) | Left::OtherFamily => None,
+        Left::Nfproto => Some(family_met(asked.family, value).ok_or(RuleKind::CantSay)),
+        Left::Interface(way, naming) => Some(interface_met(assumed, way, naming, value)),
+        Left::State => Some(state_met(assumed, Operator::Equal, value)),
+    }
+}
+
+/// The packets of which a field of the header is an element.
+fn field_boxes(
     alloc: Global,
     family: Family,
     side: Left,
     value: &Value<'_>,
 ) -> Result<Option<Vec<Packets>>, AllocError>
     ensures { IfOk result (λ found. MatchOption found
-        (keyed.left_boxes family side (value_view value.now) ≡ None)
-        (λ boxes. keyed.left_boxes family side (value_view value.now) ≡ Some boxes.items)) }
+        (keyed.field_boxes family side (value_view value.now) ≡ None)
+        (λ boxes. keyed.field_boxes family side (value_view value.now) ≡ Some boxes.items)) }
 {
     let values = std::slice::from_ref(value);
     match side {
@@ -82,50 +97,73 @@ fn left_boxes(
             number_boxes(alloc, protocol_packets(family, number), field, values)
         }
         Left::OtherFamily => Ok(Some(Vec::new(alloc))),
-        Left::Nfproto => family_boxes(alloc, family, value),
-        Left::Interface(..) | Left::State => Ok(None),
+        Left::Nfproto | Left::Interface(..) | Left::State => Ok(None),
     }
+}
+
+/// The packets of which the left side is an element.
+fn left_boxes(
+    alloc: Global,
+    question: Question<'_>,
+    side: Left,
+    value: &Value<'_>,
+) -> Result<Vec<Packets>, RuleStop>
+    ensures { MatchResult result
+        (λ boxes. keyed.left_boxes (question_of question.entry) side (value_view value.now)
+        ≡ Ok boxes.items)
+        (RefusesRule
+        (keyed.left_boxes (question_of question.entry) side (value_view value.now))) }
+{
+    let family = question.asked.family;
+    let Some(met) = met_of(question, side, value) else {
+        return match field_boxes(alloc, family, side, value)? {
+            Some(boxes) => Ok(boxes),
+            None => Err(CANT_SAY),
+        };
+    };
+    met_boxes(alloc, family, met)
 }
 
 /// The packets of which one thing is an element.
 fn thing_boxes(
     alloc: Global,
-    family: Family,
+    question: Question<'_>,
     key: &Value<'_>,
     value: &Value<'_>,
 ) -> Result<Vec<Packets>, RuleStop>
     ensures { MatchResult result
-        (λ boxes. keyed.thing_boxes family (value_view key.now) (value_view value.now)
+        (λ boxes. keyed.thing_boxes (question_of question.entry)
+        (value_view key.now) (value_view value.now)
         ≡ Ok boxes.items)
         (RefusesRule
-        (keyed.thing_boxes family (value_view key.now) (value_view value.now))) }
+        (keyed.thing_boxes (question_of question.entry)
+        (value_view key.now) (value_view value.now))) }
 {
-    let Some(side) = left_of(family, key) else {
+    let Some(side) = left_of(question.asked.family, key) else {
         return Err(CANT_SAY);
     };
-    match left_boxes(alloc, family, side, value)? {
-        Some(boxes) => Ok(boxes),
-        None => Err(CANT_SAY),
-    }
+    left_boxes(alloc, question, side, value)
 }
 
 /// The packets of which each thing is its part of an element.
 fn parts_boxes(
     alloc: Global,
-    family: Family,
+    question: Question<'_>,
     keys: &[Value<'_>],
     values: &[Value<'_>],
 ) -> Result<Caught, RuleStop>
     requires { length keys.now ≡ length values.now }
     ensures { MatchResult result
-        (λ caught. keyed.parts_boxes family (all_packets family ∷ []) (map value_view keys.now)
+        (λ caught. keyed.parts_boxes (question_of question.entry)
+        (all_packets question.entry.asked.family ∷ []) (map value_view keys.now)
         (map value_view values.now) ≡ Ok caught.kept)
-        (RefusesRule (keyed.parts_boxes family (all_packets family ∷ [])
+        (RefusesRule (keyed.parts_boxes (question_of question.entry)
+        (all_packets question.entry.asked.family ∷ [])
         (map value_view keys.now) (map value_view values.now))) }
 {
-    let mut caught = Caught::all(alloc, family)?;
+    let mut caught = Caught::all(alloc, question.asked.family)?;
     for place in 0..keys.len() {
-        let more = thing_boxes(alloc, family, &keys[place], &values[place])?;
+        let more = thing_boxes(alloc, question, &keys[place], &values[place])?;
         caught.take(alloc, false, &more)?;
     }
     Ok(caught)
@@ -134,20 +172,21 @@ fn parts_boxes(
 /// The packets of which each thing is its part of an element that has as many.
 fn concat_boxes(
     alloc: Global,
-    family: Family,
+    question: Question<'_>,
     keys: &[Value<'_>],
     values: &[Value<'_>],
 ) -> Result<Caught, RuleStop>
     ensures { MatchResult result
-        (λ caught. keyed.concat_boxes family (map value_view keys.now)
+        (λ caught. keyed.concat_boxes (question_of question.entry) (map value_view keys.now)
         (map value_view values.now) ≡ Ok caught.kept)
         (RefusesRule
-        (keyed.concat_boxes family (map value_view keys.now) (map value_view values.now))) }
+        (keyed.concat_boxes (question_of question.entry)
+        (map value_view keys.now) (map value_view values.now))) }
 {
     if keys.len() != values.len() {
         return Err(CANT_SAY);
     }
-    parts_boxes(alloc, family, keys, values)
+    parts_boxes(alloc, question, keys, values)
 }
 
 /// The parts of what is taken together.
@@ -163,23 +202,25 @@ pub(crate) fn concat_of<'v, 'a>(value: &'v Value<'a>) -> Option<&'v [Value<'a>]>
 }
 
 /// The packets of which a key is an element: one thing, or several.
-fn key_boxes(
+pub(crate) fn key_boxes(
     alloc: Global,
-    family: Family,
+    question: Question<'_>,
     key: &Value<'_>,
     value: &Value<'_>,
 ) -> Result<Caught, RuleStop>
     ensures { MatchResult result
-        (λ caught. keyed.key_boxes family (value_view key.now) (value_view value.now)
+        (λ caught. keyed.key_boxes (question_of question.entry)
+        (value_view key.now) (value_view value.now)
         ≡ Ok caught.kept)
-        (RefusesRule (keyed.key_boxes family (value_view key.now) (value_view value.now))) }
+        (RefusesRule (keyed.key_boxes (question_of question.entry)
+        (value_view key.now) (value_view value.now))) }
 {
     let Some(keys) = concat_of(key) else {
         let values = std::slice::from_ref(value);
-        return concat_boxes(alloc, family, std::slice::from_ref(key), values);
+        return concat_boxes(alloc, question, std::slice::from_ref(key), values);
     };
     match concat_of(value) {
-        Some(values) => concat_boxes(alloc, family, keys, values),
+        Some(values) => concat_boxes(alloc, question, keys, values),
         None => Err(CANT_SAY),
     }
 }
@@ -187,18 +228,20 @@ fn key_boxes(
 /// The same of an element that may have a counter and a comment.
 fn element_boxes(
     alloc: Global,
-    family: Family,
+    question: Question<'_>,
     key: &Value<'_>,
     element: &Value<'_>,
 ) -> Result<Caught, RuleStop>
     ensures { MatchResult result
-        (λ caught. keyed.element_boxes family (value_view key.now) (value_view element.now)
+        (λ caught. keyed.element_boxes (question_of question.entry)
+        (value_view key.now) (value_view element.now)
         ≡ Ok caught.kept)
         (RefusesRule
-        (keyed.element_boxes family (value_view key.now) (value_view element.now))) }
+        (keyed.element_boxes (question_of question.entry)
+        (value_view key.now) (value_view element.now))) }
 {
     match bare_element(element) {
-        Some(value) => key_boxes(alloc, family, key, value),
+        Some(value) => key_boxes(alloc, question, key, value),
         None => Err(CANT_SAY),
     }
 }
@@ -206,19 +249,19 @@ fn element_boxes(
 /// The packets of which a key is one of some elements.
 pub(crate) fn elements_boxes(
     alloc: Global,
-    family: Family,
+    question: Question<'_>,
     key: &Value<'_>,
     elements: &[Value<'_>],
 ) -> Result<Vec<Packets>, RuleStop>
     ensures { MatchResult result
-        (λ boxes. keyed.elements_boxes family (value_view key.now) []
+        (λ boxes. keyed.elements_boxes (question_of question.entry) (value_view key.now) []
         (map value_view elements.now) ≡ Ok boxes.items)
-        (RefusesRule (keyed.elements_boxes family (value_view key.now) []
+        (RefusesRule (keyed.elements_boxes (question_of question.entry) (value_view key.now) []
         (map value_view elements.now))) }
 {
     let mut boxes = Vec::new(alloc);
     for element in elements {
-        let more = element_boxes(alloc, family, key, element)?;
+        let more = element_boxes(alloc, question, key, element)?;
         boxes.extend_from_slice(more.kept())?;
     }
     Ok(boxes)

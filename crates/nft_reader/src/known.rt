@@ -3,7 +3,7 @@
 ghost use Rattle.std.specs.Prelude.{◌≡◌, MatchResult, Ok};
 ghost use Rattle.json.specs.Value.{value_view};
 ghost use Rattle.nft_reader.specs.Known.{known_of};
-ghost use Rattle.nft_reader.specs.Readings.{led_place, target_of};
+ghost use Rattle.nft_reader.specs.Named.{led_place, target_of};
 ghost use Rattle.nft_reader.specs.Stops.{RefusesRule};
 
 use crate::chain::{NftChain, Owner, place_of};

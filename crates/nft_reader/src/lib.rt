@@ -10,10 +10,12 @@
 //! | `values`, `addresses` | the right side of a comparison: values, prefixes, ranges and sets |
 //! | `boxes` | boxes of the packets that a comparison is true of |
 //! | `compared` | its left side: fields of headers, and what is known beside them |
+//! | `comparison` | what a rule compares, and the packets that it catches by that |
 //! | `assumed` | comparisons with what is assumed of packets |
 //! | `sets` | named sets of a ruleset |
 //! | `keys`, `together` | several things that are compared together |
-//! | `reading` | a rule, statement by statement |
+//! | `maps` | maps to verdicts, element by element |
+//! | `reading`, `comparing` | a rule, statement by statement |
 //! | `known` | what is asked, and what is known where a rule is read |
 //! | `chain` | a chain: its name, its policy and its rules |
 //! | `parts` | what the objects of chains and rules say |
@@ -29,10 +31,13 @@ mod assumed;
 mod boxes;
 mod chain;
 mod compared;
+mod comparing;
+mod comparison;
 mod fault;
 mod keys;
 mod known;
 mod laws;
+mod maps;
 mod parts;
 mod reading;
 mod ruleset;

@@ -3,10 +3,13 @@ use Rattle.std.proofs.Common.{◌≡◌, ◌∷◌, [], map, drop}
 use Rattle.json.specs.Value.{value_view}
 use Rattle.nft_reader.specs.Keys.{parts_boxes}
 use Rattle.iptables_reader.specs.Packets.{all_packets}
+use Rattle.nft_reader.specs.Known.{question_of}
 use Rattle.nft_reader.proofs.keys.parts_boxes.Given as goal
 
 -- those that are left, among the boxes so far, make what all parts make
 abbrev pub invariant-loop-place : goal.invariant-loop-place
 invariant-loop-place l =
-    parts_boxes l.family (all_packets l.family ∷ []) (map value_view l.keys) (map value_view l.values)
-    ≡ parts_boxes l.family l.caught.kept (map value_view (drop l.place l.keys)) (map value_view (drop l.place l.values))
+    parts_boxes (question_of l.question) (all_packets l.question.asked.family ∷ [])
+    (map value_view l.keys) (map value_view l.values)
+    ≡ parts_boxes (question_of l.question) l.caught.kept (map value_view (drop l.place l.keys))
+    (map value_view (drop l.place l.values))

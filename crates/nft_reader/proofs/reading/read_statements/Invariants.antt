@@ -8,6 +8,6 @@ use Rattle.nft_reader.proofs.reading.read_statements.Given as goal
 -- those that are left, after what was read, make what all statements make
 abbrev pub invariant-loop-statement : goal.invariant-loop-statement
 invariant-loop-statement l =
-    with_statements (known_of l.known) (no_reading l.known.question.asked.family) (map value_view l.statements)
+    with_statements (known_of l.known) no_reading (map value_view l.statements)
     ≡ with_statements (known_of l.known) l.reading
     (map value_view (drop l.statement-index l.statements))

@@ -1,8 +1,7 @@
 -- What the value of a text says, and what is told of a text without one.
 use Rattle.std.proofs.Common.{◌≡◌, ◌∙◌, ap, sym, subst, Err, IfErr, IfOk, Ok}
-use Rattle.json.specs.Value.{value_view}
 use Rattle.nft_reader.specs.Known.{question_of}
-use Rattle.nft_reader.specs.Ruleset.{chains_of_document, chains_of_objects, chains_of_text, objects_of}
+use Rattle.nft_reader.specs.Ruleset.{chains_of_document, chains_of_text}
 use Rattle.nft_reader.specs.Stops.{IsToldOf}
 use Rattle.nft_reader.proofs.Texts.{no_text, text_is}
 use Rattle.nft_reader.proofs.ruleset.read_text.Goals as goal

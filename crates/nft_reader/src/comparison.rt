@@ -1,0 +1,62 @@
+//! What a rule compares, and the packets that it catches by that.
+
+ghost use Rattle.std.specs.Prelude.{◌≡◌, IfOk, OnOk};
+ghost use Rattle.nft_reader.specs.Comparisons.{caught_by, narrowed};
+
+use field_defs::Family;
+use iptables_reader::{Caught, Packets};
+use std::alloc::{AllocError, Global};
+use std::marker::Model;
+
+/// A comparison: packets lie in one of its boxes, or after `!=` in none. Contracts see a record of
+/// both.
+#[derive(Drop)]
+pub(crate) struct Comparison {
+    negated: bool,
+    boxes: Vec<Packets>,
+}
+
+impl Model for Comparison {
+    ghost use Rattle.nft_reader.specs.Comparisons.{ComparedBoxes};
+
+    ghost Value = { ComparedBoxes };
+
+    ghost view = { λ comparison. record {
+      negated = comparison.negated;
+      boxes = comparison.boxes.items;
+    } };
+}
+
+impl Comparison {
+    ghost use Rattle.std.specs.Prelude.{◌≡◌, OnOk};
+    ghost use Rattle.nft_reader.specs.Comparisons.{narrowed};
+
+    /// A comparison with some boxes.
+    pub(crate) fn new(negated: bool, boxes: Vec<Packets>) -> Comparison
+        ensures { result ≡ record { negated = negated; boxes = boxes.items } }
+    {
+        Comparison { negated, boxes }
+    }
+
+    /// Leaves of some packets those that it is true of.
+    fn narrow(&self, alloc: Global, caught: &mut Caught) -> Result<(), AllocError>
+        ensures { OnOk result (caught.new ≡ narrowed caught.old self.now) }
+    {
+        caught.take(alloc, self.negated, &self.boxes)
+    }
+}
+
+/// The packets of a family that some comparisons are true of.
+pub(crate) fn caught_by(
+    alloc: Global,
+    family: Family,
+    compared: &[Comparison],
+) -> Result<Caught, AllocError>
+    ensures { IfOk result (λ caught. caught ≡ caught_by family compared.now) }
+{
+    let mut caught = Caught::all(alloc, family)?;
+    for comparison in compared {
+        comparison.narrow(alloc, &mut caught)?;
+    }
+    Ok(caught)
+}
