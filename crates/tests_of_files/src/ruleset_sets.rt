@@ -1,4 +1,5 @@
-//! Rulesets with named sets and with several things together, as `nft -j list ruleset` prints them.
+//! Rulesets with named sets, with maps, and with several things together, as `nft -j list ruleset`
+//! prints them.
 
 use crate::rulesets::{HANDLES, decides, rules_at};
 use nft_reader::{RuleKind, read_ruleset};
@@ -54,6 +55,46 @@ const SETS: &str =
     {\"protocol\": \"ip\", \"field\": \"saddr\"}}, \"right\": \"@seen\"}}, {\"accept\": \
     null}]}}]}";
 
+/// Maps to verdicts, as nftables v1.0.6 prints them.
+const MAPS: &str =
+    "{\"nftables\": [{\"metainfo\": {\"version\": \"1.0.6\", \"release_name\": \"Lester \
+    Gooch #5\", \"json_schema_version\": 1}}, \
+    {\"table\": {\"family\": \"inet\", \"name\": \"filter\", \"handle\": 1}}, \
+    {\"set\": {\"family\": \"inet\", \"name\": \"seen\", \"table\": \"filter\", \"type\": \
+    \"ipv4_addr\", \"handle\": 3, \"size\": 100}}, \
+    {\"map\": {\"family\": \"inet\", \"name\": \"verdicts\", \"table\": \"filter\", \
+    \"type\": \"inet_service\", \"handle\": 4, \"map\": \"verdict\", \"elem\": [[25, \
+    {\"drop\": null}], [53, {\"accept\": null}], [80, {\"jump\": {\"target\": \
+    \"web\"}}]]}}, \
+    {\"chain\": {\"family\": \"inet\", \"table\": \"filter\", \"name\": \"web\", \
+    \"handle\": 1}}, \
+    {\"chain\": {\"family\": \"inet\", \"table\": \"filter\", \"name\": \"input\", \
+    \"handle\": 2, \"type\": \"filter\", \"hook\": \"input\", \"prio\": 0, \"policy\": \
+    \"drop\"}}, \
+    {\"rule\": {\"family\": \"inet\", \"table\": \"filter\", \"chain\": \"web\", \
+    \"handle\": 5, \"expr\": [{\"match\": {\"op\": \"==\", \"left\": {\"payload\": \
+    {\"protocol\": \"ip\", \"field\": \"saddr\"}}, \"right\": {\"prefix\": {\"addr\": \
+    \"203.0.113.0\", \"len\": 24}}}}, {\"drop\": null}]}}, \
+    {\"rule\": {\"family\": \"inet\", \"table\": \"filter\", \"chain\": \"input\", \
+    \"handle\": 6, \"expr\": [{\"set\": {\"op\": \"add\", \"elem\": {\"payload\": \
+    {\"protocol\": \"ip\", \"field\": \"saddr\"}}, \"set\": \"@seen\"}}]}}, \
+    {\"rule\": {\"family\": \"inet\", \"table\": \"filter\", \"chain\": \"input\", \
+    \"handle\": 7, \"expr\": [{\"vmap\": {\"key\": {\"payload\": {\"protocol\": \"tcp\", \
+    \"field\": \"dport\"}}, \"data\": \"@verdicts\"}}]}}, \
+    {\"rule\": {\"family\": \"inet\", \"table\": \"filter\", \"chain\": \"input\", \
+    \"handle\": 9, \"expr\": [{\"vmap\": {\"key\": {\"concat\": [{\"payload\": \
+    {\"protocol\": \"ip\", \"field\": \"saddr\"}}, {\"payload\": {\"protocol\": \"udp\", \
+    \"field\": \"dport\"}}]}, \"data\": {\"set\": [[{\"concat\": [\"198.51.100.1\", 53]}, \
+    {\"accept\": null}], [{\"concat\": [{\"prefix\": {\"addr\": \"203.0.113.0\", \"len\": \
+    24}}, {\"range\": [67, 68]}]}, {\"goto\": {\"target\": \"web\"}}]]}}}]}}, \
+    {\"rule\": {\"family\": \"inet\", \"table\": \"filter\", \"chain\": \"input\", \
+    \"handle\": 11, \"expr\": [{\"vmap\": {\"key\": {\"payload\": {\"protocol\": \"udp\", \
+    \"field\": \"dport\"}}, \"data\": {\"set\": [[53, {\"accept\": null}], [{\"range\": \
+    [67, 68]}, {\"continue\": null}], [\"*\", {\"return\": null}]]}}}]}}, \
+    {\"rule\": {\"family\": \"inet\", \"table\": \"filter\", \"chain\": \"input\", \
+    \"handle\": 13, \"expr\": [{\"match\": {\"op\": \"==\", \"left\": {\"meta\": {\"key\": \
+    \"l4proto\"}}, \"right\": {\"set\": [\"tcp\", \"udp\"]}}}, {\"accept\": null}]}}]}";
+
 #[test]
 fn named_sets_have_what_is_listed(rt: HostRuntime) -> Result<(), Fail> {
     let rules = rules_at(&rt, rt.alloc(), (SETS, 0), HANDLES, b"")?;
@@ -88,8 +129,25 @@ fn a_set_that_packets_change_isnt_known(rt: HostRuntime) -> Result<(), Fail> {
         .expect(&rt, "a lawful ruleset");
     assert!(rt; saved.len() == 2);
     let faults = saved[1].faults();
-    assert!(rt; faults.len() == 2);
-    assert!(rt; faults[1].handle == 13);
-    assert!(rt; matches!(faults[1].kind, RuleKind::ChangingSet));
+    assert!(rt; faults.len() == 1);
+    assert!(rt; faults[0].handle == 13);
+    assert!(rt; matches!(faults[0].kind, RuleKind::ChangingSet));
+    Ok(())
+}
+
+#[test]
+fn maps_decide_by_their_elements(rt: HostRuntime) -> Result<(), Fail> {
+    let rules = rules_at(&rt, rt.alloc(), (MAPS, 1), HANDLES, b"")?;
+    let server = [192, 0, 2, 77];
+    let other = [192, 0, 2, 1];
+    decides(&rt, &rules, 6, [other, server], 25, 7);
+    decides(&rt, &rules, 6, [[203, 0, 113, 5], server], 80, 5);
+    decides(&rt, &rules, 6, [other, server], 80, 13);
+    decides(&rt, &rules, 17, [[198, 51, 100, 1], server], 53, 9);
+    decides(&rt, &rules, 17, [[203, 0, 113, 5], server], 67, 5);
+    decides(&rt, &rules, 17, [other, server], 53, 11);
+    decides(&rt, &rules, 17, [other, server], 67, 13);
+    decides(&rt, &rules, 17, [other, server], 99, 2);
+    decides(&rt, &rules, 1, [other, server], 0, 2);
     Ok(())
 }
