@@ -14,6 +14,10 @@ from draws_iptables import assumed_of
 PORTS = draws_nft.PORTS
 PROTOCOLS = ("tcp", "udp", "icmp", "gre", "esp", 47, 253)
 STATES = ("new", "established", "related")
+# Addresses of which none is in another.
+APART = {"ip": ("10.1.2.3", {"range": ["10.1.2.4", "10.1.2.9"]}, {"prefix": {"addr": "10.2.0.0", "len": 16}}),
+         "ip6": ("2001:db8::1", {"range": ["2001:db8::4", "2001:db8::9"]},
+                 {"prefix": {"addr": "2001:db9::", "len": 32}})}
 
 
 class Rules:
@@ -62,8 +66,23 @@ class Rules:
         parts = 2 if found == "@pairs" else len(found["set"][0]["concat"])
         return draws_nft.comparison({"concat": several[parts]}, "==", found)
 
+    def looked_up(self, transport, later):
+        """A map to verdicts, of which no two elements have packets in common."""
+        port = draws_nft.payload(transport, "dport")
+        address = draws_nft.payload(self.network, self.draw.choice(["saddr", "daddr"]))
+        verdicts = [{name: None} for name in ("accept", "drop", "return", "continue")]
+        verdicts += [{name: {"target": target}} for name in ("jump", "goto") for target in later]
+        several = [{"concat": pair} for pair in zip(APART[self.network], self.draw.sample(PORTS, 3))]
+        key, values = self.draw.choice([
+            (port, self.draw.sample(PORTS, 3)), (address, APART[self.network]), ({"concat": [address, port]}, several),
+            ({"ct": {"key": "state"}}, STATES), ({"meta": {"key": "iifname"}}, ["eth0", "eth1", "lo"])])
+        found = [[value, self.draw.choice(verdicts)] for value in values[self.draw.randrange(2):]]
+        found += [["*", self.draw.choice(verdicts)]] * ("concat" not in key and self.draw.random() < 0.5)
+        data = "@services" if key == port and self.draw.random() < 0.3 else {"set": found}
+        return {"vmap": {"key": key, "data": data}}
+
     def sets(self, of, handles):
-        """The named sets."""
+        """The named sets, and a map to verdicts."""
         kind = {"ip": "ipv4_addr", "ip6": "ipv6_addr"}[self.network]
         addresses = self.draw.sample(draws_nft.ADDRESSES[self.network], 2)
         commented = [{"elem": {"val": addresses[0], "comment": "x"}}, addresses[1]]
@@ -73,6 +92,10 @@ class Rules:
                                    ("pairs", [kind, "inet_service"], pairs)):
             yield {"set": {**of, "name": name, "type": kinds, "handle": next(handles), "flags": ["interval"],
                            **({"elem": found} if found else {})}}
+        yield {"set": {**of, "name": "seen", "type": kind, "handle": next(handles), "size": 100}}
+        services = [[25, {"drop": None}], [{"range": [80, 90]}, {"accept": None}], ["*", {"return": None}]]
+        yield {"map": {**of, "name": "services", "type": "inet_service", "handle": next(handles), "map": "verdict",
+                       "flags": ["interval"], "elem": self.draw.sample(services, 2)}}
 
     def assumed(self, _):
         """A comparison of what is assumed."""
@@ -95,6 +118,11 @@ class Rules:
         kinds = [self.field, self.field, self.port, self.port, self.assumed, self.named, self.together]
         kinds += [self.other] * (self.table == "inet")
         found = [self.draw.choice(kinds)(transport) for _ in range(self.draw.randrange(4))]
+        if self.draw.random() < 0.05:
+            source = draws_nft.payload(self.network, "saddr")
+            return found + [{"set": {"op": "add", "elem": source, "set": "@seen"}}]
+        if self.draw.random() < 0.2:
+            return found + [self.looked_up(transport, later)]
         return found + draws_nft.verdict(self.draw, draws_nft.answers(self.table, self.network, transport), later)
 
 

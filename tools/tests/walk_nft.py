@@ -134,7 +134,7 @@ class Judge:
         """The handle that decides within a chain, and whether nothing is asked after it."""
         for rule in self.rules[key]:
             names = [only(it)[0] for it in rule["expr"]]
-            if set(names) <= {"match", "limit", *QUIET}:
+            if set(names) <= {"match", "limit", "set", *QUIET}:
                 continue
             verdict, target = self.run(rule, key, fields)
             if verdict in ("accept", "drop", "reject"):
