@@ -164,7 +164,7 @@ fn cisco_kind(fault: cisco_reader::LineKind) -> &'static [u8]
         cisco_reader::LineKind::SequenceTwice => b"repeated sequence number",
         cisco_reader::LineKind::LooseEntry => b"entry before without a sequence number",
         cisco_reader::LineKind::MissingWord => b"missing word",
-        cisco_reader::LineKind::Group => b"group of services",
+        cisco_reader::LineKind::Group => b"ports beside a group of services",
         cisco_reader::LineKind::BadGroup => b"no kind and name of a group",
         cisco_reader::LineKind::KindTwice => b"group begun with another kind",
         cisco_reader::LineKind::NoGroup => b"no such group",
