@@ -67,7 +67,7 @@ class Rules:
         return draws_nft.comparison({"concat": several[parts]}, "==", found)
 
     def looked_up(self, transport, later):
-        """A map to verdicts, of which no two elements have packets in common."""
+        """A map to verdicts, of which no two elements have packets in common; `*` is last, as nft lists it."""
         port = draws_nft.payload(transport, "dport")
         address = draws_nft.payload(self.network, self.draw.choice(["saddr", "daddr"]))
         verdicts = [{name: None} for name in ("accept", "drop", "return", "continue")]
@@ -95,7 +95,7 @@ class Rules:
         yield {"set": {**of, "name": "seen", "type": kind, "handle": next(handles), "size": 100}}
         services = [[25, {"drop": None}], [{"range": [80, 90]}, {"accept": None}], ["*", {"return": None}]]
         yield {"map": {**of, "name": "services", "type": "inet_service", "handle": next(handles), "map": "verdict",
-                       "flags": ["interval"], "elem": self.draw.sample(services, 2)}}
+                       "flags": ["interval"], "elem": self.draw.choice([services[:2], services[1:], services])}}
 
     def assumed(self, _):
         """A comparison of what is assumed."""
