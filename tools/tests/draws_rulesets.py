@@ -161,6 +161,29 @@ def without(text, handle):
     return json.dumps({"nftables": kept})
 
 
+def reached_rules(listed):
+    """The rules of some objects to which packets may come that begin in the chain input."""
+    rules, chains, before = [it for it in listed if "rule" in it], {"input"}, 0
+    while before < len(chains):
+        before = len(chains)
+        said = json.dumps([it for it in rules if it["rule"]["chain"] in chains])
+        chains |= set(re.findall('"target": "([^"]*)"', said))
+    return [it for it in rules if it["rule"]["chain"] in chains]
+
+
+def read_part(text):
+    """What the program reads of a ruleset: no rules that packets don't come to, and sets and maps that the others name,
+    each once."""
+    listed, kept = json.loads(text)["nftables"], []
+    rules = reached_rules(listed)
+    named = set(re.findall('"@([^"]*)"', json.dumps(rules)))
+    for it in listed:
+        said = it.get("set", it.get("map"))
+        if it in rules or "rule" not in it and (said is None or said["name"] in named and it not in kept):
+            kept.append(it)
+    return json.dumps({"nftables": kept})
+
+
 def is_passed_over(name, said, refused):
     """Whether the program passes over an object: a table whose name is none, one of a family that it doesn't read, or a
     rule that compares the family, so that it may catch no packet that is asked for."""

@@ -76,12 +76,19 @@ def differing(rules, wanted, judge, draw):
             yield f"packet {fields}: {decided(rules, fields)} by the program, {said} by the list"
 
 
-def decides_without(drawn, text, refused, made, draw):
-    """Whether the program decides as a ruleset does without the rule that the tools refuse, which no packet meets."""
+def decides_by_part(drawn, part, text, made, draw):
+    """Whether the program decides as a part of a ruleset does."""
     try:
-        return not any(differing(rules_of(made), [], drawn.judge(draws_rulesets.without(text, refused.number)), draw))
+        return not any(differing(rules_of(made), [], drawn.judge(part(text)), draw))
     except drawn.unlawful:
         return False
+
+
+def is_idle(drawn, text, refused, made, draw):
+    """Whether the program decides as what it reads of a ruleset does, or as the ruleset without the rule that the tools
+    refuse, which no packet meets."""
+    parts = [draws_rulesets.read_part] + [lambda it: draws_rulesets.without(it, refused.number)] * bool(refused)
+    return any(decides_by_part(drawn, part, text, made, draw) for part in parts)
 
 
 def judged(drawn, text, draw):
@@ -94,7 +101,7 @@ def judged(drawn, text, draw):
     try:
         found = next(differing(rules_of(made), rules_of(wanted or ""), drawn.judge(text), draw), None)
     except drawn.unlawful as error:
-        idle = refused and (allowed or form == "nft" and decides_without(drawn, text, refused, made, draw))
+        idle = refused and allowed or form == "nft" and is_idle(drawn, text, refused, made, draw)
         return "no part" if idle else f"it isn't lawful, and was taken: {error}"
     if refused and not found and not allowed and form != "nft":
         return f"the converter refuses what the program takes: {refused.reason}"
