@@ -1,4 +1,4 @@
--- Two or three walks side by side, each of a key of its own.
+-- Two to four walks side by side, each of a key of its own.
 use Rattle.std.proofs.Common.{◌≡◌, ◌⊎◌, ℕ, zero, suc, ◌+◌, ◌*◌, ◌<◌, ◌≤◌, Bool, true, false, List, [], ◌∷◌, refl, sym, ap, ◌∙◌}
 use Rattle.std.proofs.Common.{arith, subst, length, drop, inl, inr, get_or, set}
 use Rattle.std.specs.Prelude.{slice_index, if◌then◌else◌, ◌&&◌, ◌||◌, not}
@@ -141,29 +141,37 @@ module _ {there : Bool} {way : Way} {keys : List ℕ} {count lane n word : ℕ}
         ∙ sym (transitions_at_match way.table way.trie key n (rw (sym (s.stands h).is) match))
         ∙ ap (λ (k : ℕ). walk_transitions way.table way.trie (key_at way.table keys k)) (lane_own count lane own)
 
--- ---- two walks and, if it is there, a third
+-- ---- two walks and, if they are there, a third and a fourth
+
+-- how many keys they walk
+abbrev pub count_of : Bool → Bool → ℕ
+count_of three four = if four then 4 else if three then 3 else 2
 
 -- where they stand after n bytes each, and how many words they took together
-pub record Sides (three : Bool) (way : Way) (keys : List ℕ) (count n first second third taken : ℕ) : Type 0 where
-  pub one : Side true way keys count 0 n first
-  pub two : Side true way keys count 1 n second
-  pub last : Side three way keys count 2 n third
-  pub taken_is : taken ≡ took_of true way (key_of way keys count 0) n + took_of true way (key_of way keys count 1) n
-      + took_of three way (key_of way keys count 2) n
-  pub few : taken ≤ 2 * n + (if three then n else 0)
+pub record Sides (three four : Bool) (way : Way) (keys : List ℕ) (count n first second third fourth taken : ℕ) : Type 0
+  where
+    pub one : Side true way keys count 0 n first
+    pub two : Side true way keys count 1 n second
+    pub next : Side three way keys count 2 n third
+    pub last : Side four way keys count 3 n fourth
+    pub taken_is : taken ≡ took_of true way (key_of way keys count 0) n + took_of true way (key_of way keys count 1) n
+        + took_of three way (key_of way keys count 2) n + took_of four way (key_of way keys count 3) n
+    pub few : taken ≤ 2 * n + (if three then n else 0) + (if four then n else 0)
 
 -- they begin at the root
-pub sides_begin : {way : Way} {keys : List ℕ} {count root : ℕ} → IsWay way → SomeKeys way keys count → (three : Bool) →
-    root ≡ root_of way.table way.trie → Sides three way keys count 0 root root root 0
-sides_begin {way = way} {keys = keys} {count = count} w k three is = record {
+pub sides_begin : {way : Way} {keys : List ℕ} {count root : ℕ} → IsWay way → SomeKeys way keys count →
+    (three four : Bool) → root ≡ root_of way.table way.trie → Sides three four way keys count 0 root root root root 0
+sides_begin {way = way} {keys = keys} {count = count} w k three four is = record {
   one = side_begins w k true 0 is;
   two = side_begins w k true 1 is;
-  last = side_begins w k three 2 is;
+  next = side_begins w k three 2 is;
+  last = side_begins w k four 3 is;
   taken_is = omega (
     arith,
     side_none true way (key_of way keys count 0),
     side_none true way (key_of way keys count 1),
     side_none three way (key_of way keys count 2),
+    side_none four way (key_of way keys count 3),
   );
   few = omega arith;
 }
@@ -180,142 +188,240 @@ at_most_there true true n = omega arith
 at_most_there true false n = omega arith
 at_most_there false b n = omega arith
 
--- one of three walks is on its way
-on_way : (a b there c : Bool) → (not a || not b || there && not c) ≡ true →
-    (a ≡ false) ⊎ ((b ≡ false) ⊎ ((there ≡ true) × (c ≡ false)))
-on_way false b there c e = inl refl
-on_way true false there c e = inr (inl refl)
-on_way true true true false e = inr (inr (refl, refl))
-on_way true true true true e = absurd (cc e)
-on_way true true false c e = absurd (cc e)
+-- what is counted if something is there is no more than it
+pub at_most_all : (b : Bool) (k : ℕ) → (if b then k else 0) ≤ k
+at_most_all true k = omega arith
+at_most_all false k = omega arith
 
--- none of three walks is
-none_on_way : (a b there c : Bool) → (not a || not b || there && not c) ≡ false →
-    (a ≡ true) × (b ≡ true) × (there ≡ true → c ≡ true)
-none_on_way true true true true e = (refl, refl, λ h. refl)
-none_on_way true true true false e = absurd (cc e)
-none_on_way true true false c e = (refl, refl, λ h. absurd (cc h))
-none_on_way true false there c e = absurd (cc e)
-none_on_way false b there c e = absurd (cc e)
+-- one of four walks is on its way
+on_way : (a b there c here d : Bool) → (not a || not b || there && not c || here && not d) ≡ true →
+    (a ≡ false) ⊎ ((b ≡ false) ⊎ (((there ≡ true) × (c ≡ false)) ⊎ ((here ≡ true) × (d ≡ false))))
+on_way false b there c here d e = inl refl
+on_way true false there c here d e = inr (inl refl)
+on_way true true true false here d e = inr (inr (inl (refl, refl)))
+on_way true true true true true false e = inr (inr (inr (refl, refl)))
+on_way true true false c true false e = inr (inr (inr (refl, refl)))
+on_way true true true true true true e = absurd (cc e)
+on_way true true true true false d e = absurd (cc e)
+on_way true true false c true true e = absurd (cc e)
+on_way true true false c false d e = absurd (cc e)
 
-module _ {three : Bool} {way : Way} {keys : List ℕ} {count n first second third taken : ℕ}
-    (s : Sides three way keys count n first second third taken) where
+-- none of four walks is
+pub record NoneOnWay (a b there c here d : Bool) : Type 0 where
+  pub one : a ≡ true
+  pub two : b ≡ true
+  pub next : there ≡ true → c ≡ true
+  pub last : here ≡ true → d ≡ true
+
+none_on_way : (a b there c here d : Bool) → (not a || not b || there && not c || here && not d) ≡ false →
+    NoneOnWay a b there c here d
+none_on_way false b there c here d e = absurd (cc e)
+none_on_way true false there c here d e = absurd (cc e)
+none_on_way true true true false here d e = absurd (cc e)
+none_on_way true true true true true false e = absurd (cc e)
+none_on_way true true false c true false e = absurd (cc e)
+none_on_way true true true true true true e = record {
+  one = refl;
+  two = refl;
+  next = λ h. refl;
+  last = λ h. refl;
+}
+none_on_way true true true true false d e = record {
+  one = refl;
+  two = refl;
+  next = λ h. refl;
+  last = λ h. absurd (cc h);
+}
+none_on_way true true false c true true e = record {
+  one = refl;
+  two = refl;
+  next = λ h. absurd (cc h);
+  last = λ h. refl;
+}
+none_on_way true true false c false d e = record {
+  one = refl;
+  two = refl;
+  next = λ h. absurd (cc h);
+  last = λ h. absurd (cc h);
+}
+
+module _ {three four : Bool} {way : Way} {keys : List ℕ} {count n first second third fourth taken : ℕ}
+    (s : Sides three four way keys count n first second third fourth taken) where
   -- as long as one is on its way there is a place more
-  pub sides_more : (not (is_match first) || not (is_match second) || three && not (is_match third)) ≡ true →
-      n < length way.places
-  sides_more e =
-      elim (on_way (is_match first) (is_match second) three (is_match third) e) [
+  pub sides_more : {some : Bool} → some ≡ (not (is_match first) || not (is_match second)
+      || three && not (is_match third) || four && not (is_match fourth)) → some ≡ true → n < length way.places
+  sides_more is e =
+      elim (on_way (is_match first) (is_match second) three (is_match third) four (is_match fourth) (sym is ∙ e)) [
         | inl free ↦ side_more s.one refl free
         | inr later ↦
             elim later [
               | inl free ↦ side_more s.two refl free
-              | inr free ↦ side_more s.last free.0 free.1
+              | inr rest ↦
+                  elim rest [
+                    | inl free ↦ side_more s.next free.0 free.1
+                    | inr free ↦ side_more s.last free.0 free.1
+                  ]
             ]
       ]
 
   -- they took few words so far
-  pub sides_few : (m : ℕ) → n < m → taken + 2 ≤ 3 * m
-  sides_few m below = omega (arith, s.few, below, most three n)
-    where
-      most : (b : Bool) (k : ℕ) → (if b then k else 0) ≤ k
-      most true k = omega arith
-      most false k = omega arith
+  pub sides_few : (m : ℕ) → n < m → taken + 3 ≤ 4 * m
+  sides_few m below = omega (arith, s.few, below, at_most_all three n, at_most_all four n)
 
   -- each goes on by its byte
-  pub sides_go : {from len at_first at_second at_third : ℕ} → n < length way.places → from ≡ slice_index way.places n →
-      len ≡ way.table.key_len → at_first ≡ lane_key count 0 * len → at_second ≡ lane_key count 1 * len →
-      at_third ≡ lane_key count 2 * len → {next_first next_second next_third now : ℕ} →
+  pub sides_go : {from len at_first at_second at_third at_fourth : ℕ} → n < length way.places →
+      from ≡ slice_index way.places n → len ≡ way.table.key_len → at_first ≡ lane_key count 0 * len →
+      at_second ≡ lane_key count 1 * len → at_third ≡ lane_key count 2 * len → at_fourth ≡ lane_key count 3 * len →
+      {next_first next_second next_third next_fourth now : ℕ} →
       (true ≡ true → next_first ≡ moved way.words first (slice_index keys (at_first + from))) →
       (true ≡ true → next_second ≡ moved way.words second (slice_index keys (at_second + from))) →
       (three ≡ true → next_third ≡ moved way.words third (slice_index keys (at_third + from))) →
+      (four ≡ true → next_fourth ≡ moved way.words fourth (slice_index keys (at_fourth + from))) →
       now ≡ taken + (if true && not (is_match first) then 1 else 0) + (if true && not (is_match second) then 1 else 0)
-      + (if three && not (is_match third) then 1 else 0) →
-      Sides three way keys count (n + 1) next_first next_second next_third now
-  sides_go more from_is len_is first_at second_at third_at first_is second_is third_is now_is = record {
-    one = side_goes s.one more from_is first_at len_is first_is;
-    two = side_goes s.two more from_is second_at len_is second_is;
-    last = side_goes s.last more from_is third_at len_is third_is;
-    taken_is = omega (
-      arith,
-      now_is,
-      s.taken_is,
-      side_takes s.one more from_is first_at len_is,
-      side_takes s.two more from_is second_at len_is,
-      side_takes s.last more from_is third_at len_is,
-    );
-    few = omega (
-      arith,
-      now_is,
-      s.few,
-      at_most_one (true && not (is_match first)),
-      at_most_one (true && not (is_match second)),
-      at_most_there three (not (is_match third)) n,
-    );
-  }
+      + (if three && not (is_match third) then 1 else 0) + (if four && not (is_match fourth) then 1 else 0) →
+      Sides three four way keys count (n + 1) next_first next_second next_third next_fourth now
+  sides_go more from_is len_is first_at second_at third_at fourth_at first_is second_is third_is fourth_is now_is =
+      record {
+        one = side_goes s.one more from_is first_at len_is first_is;
+        two = side_goes s.two more from_is second_at len_is second_is;
+        next = side_goes s.next more from_is third_at len_is third_is;
+        last = side_goes s.last more from_is fourth_at len_is fourth_is;
+        taken_is = omega (
+          arith,
+          now_is,
+          s.taken_is,
+          side_takes s.one more from_is first_at len_is,
+          side_takes s.two more from_is second_at len_is,
+          side_takes s.next more from_is third_at len_is,
+          side_takes s.last more from_is fourth_at len_is,
+        );
+        few = omega (
+          arith,
+          now_is,
+          s.few,
+          at_most_one (true && not (is_match first)),
+          at_most_one (true && not (is_match second)),
+          at_most_there three (not (is_match third)) n,
+          at_most_there four (not (is_match fourth)) n,
+        );
+      }
 
-module _ (a b c : ℕ) where
-  -- three rows are written at the first three places
-  pub rows_of : (rows : List ℕ) → length rows ≡ 16 → (get_or (set (set (set rows 0 a) 1 b) 2 c) 0 0 ≡ a)
-      × (get_or (set (set (set rows 0 a) 1 b) 2 c) 1 0 ≡ b) × (get_or (set (set (set rows 0 a) 1 b) 2 c) 2 0 ≡ c)
+module _ (a b c d : ℕ) where
+  -- four rows are written at the first four places
+  pub rows_of : (rows : List ℕ) → length rows ≡ 16 → (get_or (set (set (set (set rows 0 a) 1 b) 2 c) 3 d) 0 0 ≡ a)
+      × (get_or (set (set (set (set rows 0 a) 1 b) 2 c) 3 d) 1 0 ≡ b)
+      × (get_or (set (set (set (set rows 0 a) 1 b) 2 c) 3 d) 2 0 ≡ c)
+      × (get_or (set (set (set (set rows 0 a) 1 b) 2 c) 3 d) 3 0 ≡ d)
   rows_of [] len = absurd (omega (arith, len))
   rows_of (x ∷ []) len = absurd (omega (arith, len))
   rows_of (x ∷ y ∷ []) len = absurd (omega (arith, len))
-  rows_of (x ∷ y ∷ z ∷ rows) len = (refl, refl, refl)
+  rows_of (x ∷ y ∷ z ∷ []) len = absurd (omega (arith, len))
+  rows_of (x ∷ y ∷ z ∷ u ∷ rows) len = (refl, refl, refl, refl)
 
--- what holds of two keys and, if it is there, of a third holds of each
-each_of_three : (three : Bool) (P : ℕ → Type 0) {count : ℕ} → count ≡ (if three then 3 else 2) → P 0 → P 1 →
-    (three ≡ true → P 2) → (k : ℕ) → k < count → P k
-each_of_three three P e first second third zero h = first
-each_of_three three P e first second third (suc zero) h = second
-each_of_three true P e first second third (suc (suc zero)) h = third refl
-each_of_three false P e first second third (suc (suc zero)) h = absurd (omega (arith, e, h))
-each_of_three true P e first second third (suc (suc (suc k))) h = absurd (omega (arith, e, h))
-each_of_three false P e first second third (suc (suc (suc k))) h = absurd (omega (arith, e, h))
+-- where a fourth walk is there, so is a third, and there are so many keys
+pub record Counted (three four : Bool) (count : ℕ) : Type 0 where
+  pub third_before : four ≡ true → three ≡ true
+  pub count_is : count ≡ count_of three four
 
--- there are keys
-pub some_keys : (three : Bool) {count : ℕ} → count ≡ (if three then 3 else 2) → 0 < count
-some_keys true e = omega (arith, e)
-some_keys false e = omega (arith, e)
+-- so it is
+pub so_many : {three four : Bool} {count : ℕ} → (four ≡ true → three ≡ true) → count ≡ count_of three four →
+    Counted three four count
+so_many before is = record { third_before = before; count_is = is }
 
-module _ {three : Bool} {way : Way} {keys : List ℕ} {count n first second third taken : ℕ}
-    (s : Sides three way keys count n first second third taken) (count_is : count ≡ (if three then 3 else 2))
-    (none : (not (is_match first) || not (is_match second) || three && not (is_match third)) ≡ false) where
-  -- the first two keys are there
-  two_keys : (b : Bool) → count ≡ (if b then 3 else 2) → 1 < count
-  two_keys true e = omega (arith, e)
-  two_keys false e = omega (arith, e)
+module _ {three four : Bool} {count : ℕ} (c : Counted three four count) where
+  -- there are at least two keys
+  pub two_keys : 1 < count
+  two_keys = two three four c.count_is
+    where
+      two : (b d : Bool) → count ≡ count_of b d → 1 < count
+      two b true e = omega (arith, e)
+      two true false e = omega (arith, e)
+      two false false e = omega (arith, e)
 
-  -- the third is if its walk is
-  third_key : (b : Bool) → count ≡ (if b then 3 else 2) → b ≡ true → 2 < count
-  third_key true e h = omega (arith, e)
-  third_key false e h = absurd (cc h)
+  -- the third is there if its walk is
+  pub third_key : three ≡ true → 2 < count
+  third_key = third three four c.count_is
+    where
+      third : (b d : Bool) → count ≡ count_of b d → b ≡ true → 2 < count
+      third b true e h = omega (arith, e)
+      third true false e h = omega (arith, e)
+      third false false e h = absurd (cc h)
+
+  -- and the fourth
+  pub fourth_key : four ≡ true → 3 < count
+  fourth_key = fourth four c.count_is
+    where
+      fourth : (d : Bool) → count ≡ count_of three d → d ≡ true → 3 < count
+      fourth true e h = omega (arith, e)
+      fourth false e h = absurd (cc h)
+
+-- what holds of two keys and, if they are there, of a third and a fourth holds of each
+each_of_four : (three four : Bool) (P : ℕ → Type 0) {count : ℕ} → Counted three four count → P 0 → P 1 →
+    (three ≡ true → P 2) → (four ≡ true → P 3) → (k : ℕ) → k < count → P k
+each_of_four three four P c first second third fourth zero h = first
+each_of_four three four P c first second third fourth (suc zero) h = second
+each_of_four true four P c first second third fourth (suc (suc zero)) h = third refl
+each_of_four false true P c first second third fourth (suc (suc zero)) h = absurd (cc (c.third_before refl))
+each_of_four false false P c first second third fourth (suc (suc zero)) h = absurd (omega (arith, c.count_is, h))
+each_of_four three true P c first second third fourth (suc (suc (suc zero))) h = fourth refl
+each_of_four true false P c first second third fourth (suc (suc (suc zero))) h = absurd (omega (arith, c.count_is, h))
+each_of_four false false P c first second third fourth (suc (suc (suc zero))) h = absurd (omega (arith, c.count_is, h))
+each_of_four three true P c first second third fourth (suc (suc (suc (suc k)))) h =
+    absurd (omega (arith, c.count_is, h))
+each_of_four true false P c first second third fourth (suc (suc (suc (suc k)))) h =
+    absurd (omega (arith, c.count_is, h))
+each_of_four false false P c first second third fourth (suc (suc (suc (suc k)))) h =
+    absurd (omega (arith, c.count_is, h))
+
+module _ {three four : Bool} {way : Way} {keys : List ℕ} {count n first second third fourth taken : ℕ}
+    (s : Sides three four way keys count n first second third fourth taken) (c : Counted three four count)
+    {some : Bool} (is : some ≡ (not (is_match first) || not (is_match second) || three && not (is_match third)
+    || four && not (is_match fourth))) (none : some ≡ false) where
+  -- each of them has ended
+  all_ended : NoneOnWay (is_match first) (is_match second) three (is_match third) four (is_match fourth)
+  all_ended =
+      none_on_way (is_match first) (is_match second) three (is_match third) four (is_match fourth) (sym is ∙ none)
 
   -- where none is on its way each has ended
   pub sides_end : (rows : List ℕ) → slice_index rows 0 ≡ index_of first → slice_index rows 1 ≡ index_of second →
-      slice_index rows 2 ≡ index_of third → (k : ℕ) → k < count →
+      slice_index rows 2 ≡ index_of third → slice_index rows 3 ≡ index_of fourth → (k : ℕ) → k < count →
       EndsAt way.table way.trie (key_at way.table keys k) (slice_index rows k)
-  sides_end rows first_is second_is third_is =
-      let ended = none_on_way (is_match first) (is_match second) three (is_match third) none in
-      let two : 1 < count = two_keys three count_is in
-      each_of_three three (λ k. EndsAt way.table way.trie (key_at way.table keys k) (slice_index rows k)) count_is
-      (side_ends s.one refl (omega (arith, two)) ended.0 first_is)
-      (side_ends s.two refl two ended.1 second_is)
-      (λ h. side_ends s.last h (third_key three count_is h) (ended.2 h) third_is)
+  sides_end rows first_is second_is third_is fourth_is =
+      each_of_four three four (λ k. EndsAt way.table way.trie (key_at way.table keys k) (slice_index rows k)) c
+      (side_ends s.one refl (omega (arith, two_keys c)) all_ended.one first_is)
+      (side_ends s.two refl (two_keys c) all_ended.two second_is)
+      (λ h. side_ends s.next h (third_key c h) (all_ended.next h) third_is)
+      (λ h. side_ends s.last h (fourth_key c h) (all_ended.last h) fourth_is)
 
   -- and together they took all their transitions
   pub sides_took : taken ≡ walks_below way.table way.trie keys count
   sides_took =
-      let ended = none_on_way (is_match first) (is_match second) three (is_match third) none in
-      let two : 1 < count = two_keys three count_is in
       let t = λ (k : ℕ). walk_transitions way.table way.trie (key_at way.table keys k) in
       s.taken_is
-      ∙ sum_of t three _ _ _ count_is (side_took s.one refl (omega (arith, two)) ended.0)
-      (side_took s.two refl two ended.1)
-      (λ h. side_took s.last h (third_key three count_is h) (ended.2 h))
+      ∙ sum_of t three four _ _ _ _ c.third_before c.count_is
+      (side_took s.one refl (omega (arith, two_keys c)) all_ended.one)
+      (side_took s.two refl (two_keys c) all_ended.two)
+      (λ h. side_took s.next h (third_key c h) (all_ended.next h))
+      (λ h. side_took s.last h (fourth_key c h) (all_ended.last h))
     where
-      sum_of : (t : ℕ → ℕ) (b : Bool) (a c d : ℕ) → count ≡ (if b then 3 else 2) → a ≡ t 0 → c ≡ t 1 →
-          (b ≡ true → (if b then d else 0) ≡ t 2) → a + c + (if b then d else 0) ≡ sum_below t count
-      sum_of t true a c d e a_is c_is d_is =
+      sum_of : (t : ℕ → ℕ) (b d : Bool) (w x y z : ℕ) → (d ≡ true → b ≡ true) → count ≡ count_of b d → w ≡ t 0 →
+          x ≡ t 1 → (b ≡ true → (if b then y else 0) ≡ t 2) → (d ≡ true → (if d then z else 0) ≡ t 3) →
+          w + x + (if b then y else 0) + (if d then z else 0) ≡ sum_below t count
+      sum_of t true true w x y z before e w_is x_is y_is z_is =
+          omega (
+            arith,
+            ap (λ (n : ℕ). sum_below t n) e,
+            sum_more t 3,
+            sum_more t 2,
+            sum_more t 1,
+            sum_more t 0,
+            sum_none t,
+            w_is,
+            x_is,
+            y_is refl,
+            z_is refl,
+          )
+      sum_of t true false w x y z before e w_is x_is y_is z_is =
           omega (
             arith,
             ap (λ (n : ℕ). sum_below t n) e,
@@ -323,20 +429,24 @@ module _ {three : Bool} {way : Way} {keys : List ℕ} {count n first second thir
             sum_more t 1,
             sum_more t 0,
             sum_none t,
-            a_is,
-            c_is,
-            d_is refl,
+            w_is,
+            x_is,
+            y_is refl,
           )
-      sum_of t false a c d e a_is c_is d_is =
-          omega (arith, ap (λ (n : ℕ). sum_below t n) e, sum_more t 1, sum_more t 0, sum_none t, a_is, c_is)
+      sum_of t false true w x y z before e w_is x_is y_is z_is = absurd (cc (before refl))
+      sum_of t false false w x y z before e w_is x_is y_is z_is =
+          omega (arith, ap (λ (n : ℕ). sum_below t n) e, sum_more t 1, sum_more t 0, sum_none t, w_is, x_is)
 
 -- they took at most as many as so many keys may have bytes
-pub sides_limit : {three : Bool} {way : Way} {keys : List ℕ} {count n first second third taken : ℕ} →
-    Sides three way keys count n first second third taken → count ≡ (if three then 3 else 2) → n ≤ max_key_len →
+pub sides_limit : {three four : Bool} {way : Way} {keys : List ℕ} {count n first second third fourth taken : ℕ} →
+    Sides three four way keys count n first second third fourth taken → Counted three four count → n ≤ max_key_len →
     taken ≤ count * max_key_len
-sides_limit {three = three} {count = count} {n = n} {taken = taken} s count_is short = most three count_is s.few
+sides_limit {three = three} {four = four} {count = count} {n = n} {taken = taken} s c short =
+    most three four c.third_before c.count_is s.few
   where
-    most : (b : Bool) → count ≡ (if b then 3 else 2) → taken ≤ 2 * n + (if b then n else 0) →
-        taken ≤ count * max_key_len
-    most true e few = omega (arith, ap (λ (k : ℕ). k * max_key_len) e, few, short)
-    most false e few = omega (arith, ap (λ (k : ℕ). k * max_key_len) e, few, short)
+    most : (b d : Bool) → (d ≡ true → b ≡ true) → count ≡ count_of b d →
+        taken ≤ 2 * n + (if b then n else 0) + (if d then n else 0) → taken ≤ count * max_key_len
+    most true true before e few = omega (arith, ap (λ (k : ℕ). k * max_key_len) e, few, short)
+    most true false before e few = omega (arith, ap (λ (k : ℕ). k * max_key_len) e, few, short)
+    most false true before e few = absurd (cc (before refl))
+    most false false before e few = omega (arith, ap (λ (k : ℕ). k * max_key_len) e, few, short)

@@ -250,9 +250,9 @@ fn walk_alone<L: Ledger>(
     u64::from(walked.taken)
 }
 
-/// The walks of so many keys, 1 to 16, which stand one after the other, through the trie, from four
-/// keys on by as many fours of lanes as they need: writes the rows at which they ended, and says how
-/// many transitions they took together.
+/// The walks of so many keys, 1 to 16, which stand one after the other, through the trie, from five
+/// keys on by as many fours of lanes as they need: writes the rows at which they ended, and says
+/// how many transitions they took together.
 pub(crate) fn walk_some<L: Ledger>(
     table: &Table,
     trie: usize,
@@ -279,12 +279,12 @@ pub(crate) fn walk_some<L: Ledger>(
         walk_in_step::<3, false, L>(table, trie, keys, count, rows, steps)
     } else if count > 4 {
         walk_in_step::<2, false, L>(table, trie, keys, count, rows, steps)
-    } else if count > 3 {
-        walk_in_step::<1, false, L>(table, trie, keys, count, rows, steps)
+    } else if count == 4 {
+        walk_side_by_side::<true, true, L>(table, trie, keys, count, rows, steps)
     } else if count == 3 {
-        walk_side_by_side::<true, L>(table, trie, keys, count, rows, steps)
+        walk_side_by_side::<true, false, L>(table, trie, keys, count, rows, steps)
     } else if count == 2 {
-        walk_side_by_side::<false, L>(table, trie, keys, count, rows, steps)
+        walk_side_by_side::<false, false, L>(table, trie, keys, count, rows, steps)
     } else {
         walk_alone(table, trie, keys, rows, steps)
     }

@@ -14,6 +14,9 @@ pub(crate) const FULL: u32 = flat_table::FULL as u32;
 /// That of a single node.
 pub(crate) const SINGLE: u32 = flat_table::SINGLE as u32;
 
+/// That of a quad-range node.
+pub(crate) const QUAD: u32 = flat_table::QUAD as u32;
+
 /// The kind of a word.
 pub(crate) fn kind_of(word: u64) -> u32
     ensures { result ≡ kind_of word }

@@ -20,7 +20,7 @@ ghost use Rattle.flat_table.specs.Word.{full, indexes, quad, is_node, next_place
 ghost use Rattle.scalar_walk.specs.Lanes.{IsGroupLen, counted, counts, ended, word_in, sum_below};
 ghost use Rattle.scalar_walk.specs.Rows.{CanGoOn, GoesOn};
 
-use crate::kinds::FULL;
+use crate::kinds::{FULL, QUAD};
 use crate::words::take_word;
 use flat_table::{INDEX_BITS, LOW_HALF, Steps};
 use std::simd::{u8x16, u32x4, u64x2};
@@ -28,9 +28,6 @@ use std::sync::ledger::Ledger;
 
 /// The bits of the index.
 const INDEX_MASK: u32 = flat_table::INDEX_MASK as u32;
-
-/// The kind of a quad-range node.
-const QUAD: u32 = flat_table::QUAD as u32;
 
 /// The low half of the least word that ends a walk.
 const ENDED: u32 = 0x8000_0000;
@@ -125,43 +122,23 @@ fn is_counted(low: u32, lane: usize, own: usize) -> bool
 #[inline]
 fn fetch<L: Ledger>(
     words: &[u64],
-    places: &[u32; 4],
+    at: &[u32; 4],
     from: &[u32; 4],
     own: usize,
     steps: &mut Steps<L>,
 ) -> (u32x4, u32x4)
-    requires { All (λ place. place < length words.now) places.now }
+    requires { All (λ place. place < length words.now) at.now }
     ensures lows { length result.0 ≡ 4 }
     ensures highs { length result.1 ≡ 4 }
     ensures words { (i : ℕ) → i < 4 → word_in result.0 result.1 i
-        ≡ slice_index words.now (slice_index places.now i) }
+        ≡ slice_index words.now (slice_index at.now i) }
     ensures steps { steps.new ≡ steps.old + (counts from.now own 0 + counts from.now own 1
         + counts from.now own 2 + counts from.now own 3) }
 {
-    let one = take_word(
-        words,
-        places[0] as usize,
-        is_counted(from[0], 0, own),
-        steps,
-    );
-    let two = take_word(
-        words,
-        places[1] as usize,
-        is_counted(from[1], 1, own),
-        steps,
-    );
-    let three = take_word(
-        words,
-        places[2] as usize,
-        is_counted(from[2], 2, own),
-        steps,
-    );
-    let four = take_word(
-        words,
-        places[3] as usize,
-        is_counted(from[3], 3, own),
-        steps,
-    );
+    let one = take_word(words, at[0] as usize, is_counted(from[0], 0, own), steps);
+    let two = take_word(words, at[1] as usize, is_counted(from[1], 1, own), steps);
+    let three = take_word(words, at[2] as usize, is_counted(from[2], 2, own), steps);
+    let four = take_word(words, at[3] as usize, is_counted(from[3], 3, own), steps);
     let first = u32x4::from_le_bytes(u64x2::from_array([one, two]).to_le_bytes());
     let second = u32x4::from_le_bytes(u64x2::from_array([three, four]).to_le_bytes());
     first.deinterleave(second)

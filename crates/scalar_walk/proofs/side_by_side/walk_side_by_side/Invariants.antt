@@ -7,8 +7,8 @@ use Rattle.scalar_walk.proofs.side_by_side.walk_side_by_side.Given as goal
 
 abbrev pub invariant-loop-words : goal.invariant-loop-words
 invariant-loop-words g l = record {
-  sides : Sides (not (eqb g.row.THREE 0)) (way_of l.table l.trie l.places l.words) l.keys l.count l.n
-      l.first l.second l.third l.taken;
+  sides : Sides (not (eqb g.row.THREE 0)) (not (eqb g.row.FOUR 0)) (way_of l.table l.trie l.places l.words) l.keys
+      l.count l.n l.first l.second l.third l.fourth l.taken;
   counted : l.steps ≡ l.fn.steps + l.taken;
 }
 
