@@ -10,18 +10,19 @@ use Rattle.std.proofs.lemmas.Grind.{flat_map-append}
 use Rattle.std.proofs.lemmas.List.{length-map, drop-drop, drop-take, drop_all, take-take}
 use Rattle.std.proofs.lemmas.List.Sums.{fold-append}
 use Rattle.std.proofs.lemmas.List.FromFn.{length-range_with_len}
-use Rattle.std.proofs.Math.Nat.{mul-le-mul_right, div-mul-le_self}
+use Rattle.std.proofs.Math.Nat.{mul-le-mul_right, div-mul-le_self, div_self}
 use borrow.Rule.Slice.PartMut.{put_mid}
 use Rattle.list_lemmas.proofs.Positions.{range-push}
 use Rattle.table_sizes.specs.Groups.{max_key_len}
 use Rattle.flat_table.specs.Table.{TableView}
 use Rattle.flat_table.specs.Walk.{key_transitions}
 use Rattle.flat_table.specs.Batch.{key_at, key_verdicts, first_verdicts, first_transitions, batch_transitions}
-use Rattle.flat_table.specs.Batch.{most_of_batch}
+use Rattle.flat_table.specs.Batch.{most_of_batch, keys_in}
 use Rattle.flat_table.proofs.Offered.{batch_bound}
 use Rattle.table_sizes.specs.Sizes.{max_tries}
 use Rattle.scalar_walk.specs.Rows.{key_winners, first_winners}
 use Rattle.scalar_walk.proofs.Below.{piece_put}
+use Rattle.scalar_walk.proofs.InStep.{key_alone}
 
 -- what a function gives for each of the first n keys, one after the other
 abbrev pub pieces_of : {A : Type 0} → (List ℕ → List A) → TableView → List ℕ → ℕ → List A
@@ -240,3 +241,30 @@ room_fits bytes len count out k m is same room within =
 pub taken_bound : (table : TableView) (keys : List ℕ) {taken : ℕ} → taken ≡ batch_transitions table keys →
     taken ≤ most_of_batch table keys
 taken_bound table keys is = omega (arith, is, batch_bound table keys)
+
+-- ---- a batch of one key
+
+module _ (table : TableView) (key : List ℕ) (some : 0 < table.key_len) (whole : length key ≡ table.key_len) where
+  -- it has one key
+  pub one_key : keys_in table key ≡ 1
+  one_key = ap (λ (size : ℕ). size / table.key_len) whole ∙ div_self some
+
+  -- which is all of it
+  only_key : key_at table key 0 ≡ key
+  only_key = key_alone table key (omega (arith, whole))
+
+  -- what a function gives for each key it gives for this one
+  pub one_piece_of : {A : Type 0} (f : List ℕ → List A) → f key ≡ pieces_of f table key (keys_in table key)
+  one_piece_of f =
+      sym (ap (λ (n : ℕ). pieces_of f table key n) one_key
+      ∙ append-nil (f (key_at table key 0)) ∙ ap f only_key)
+
+  -- and the transitions are those of its walks
+  pub its_transitions : key_transitions table key ≡ batch_transitions table key
+  its_transitions =
+      omega (
+        arith,
+        ap (λ (n : ℕ). first_transitions table key n) one_key,
+        transitions-more table key 0,
+        ap (λ (k : List ℕ). key_transitions table k) only_key,
+      )

@@ -1,7 +1,9 @@
 use Rattle.std.proofs.Common.{◌≡◌, ◌*◌, ◌/◌, ℕ, length, arith, sym, ap, ◌∙◌}
-use Rattle.flat_table.specs.Batch.{keys_in}
+use Rattle.flat_table.specs.Batch.{key_verdicts, keys_in}
 use Rattle.list_lemmas.proofs.Parts.{part_len}
-use Rattle.scalar_walk.proofs.Batches.{all_written, classified_none, keys_fit, keys_more, room_fits}
+use Rattle.scalar_walk.proofs.Batches.{all_written, classified_none, its_transitions, keys_fit, keys_more}
+use Rattle.scalar_walk.proofs.Batches.{one_piece_of, room_fits}
+use Rattle.scalar_walk.specs.Rows.{key_winners}
 use Rattle.scalar_walk.proofs.Below.{fold_is_sum, pieces_are}
 use Rattle.scalar_walk.proofs.classify.classify_keys.Goals as goal
 
@@ -25,6 +27,36 @@ loop-k-preserved g c =
           },
       omega (arith, c.next_keys-m.ensures.within),
     )
+
+pub returns-then-keys-key_len-clause-verdicts : goal.returns-then-keys-key_len-clause-verdicts
+returns-then-keys-key_len-clause-verdicts g c =
+    let size = c.key_len-key_len.ensures in
+    c.classify_alone.ensures.verdicts
+    ∙ one_piece_of c.args.table.now c.args.keys.now (omega (arith, size.some, size.value))
+    (omega (arith, c.if-keys-key_len.true, size.value))
+    (key_verdicts c.args.table.now c.args.asked.count)
+
+pub returns-then-keys-key_len-clause-won : goal.returns-then-keys-key_len-clause-won
+returns-then-keys-key_len-clause-won g c =
+    let size = c.key_len-key_len.ensures in
+    c.classify_alone.ensures.won
+    ∙ one_piece_of c.args.table.now c.args.keys.now (omega (arith, size.some, size.value))
+    (omega (arith, c.if-keys-key_len.true, size.value))
+    (key_winners c.args.table.now c.args.asked.marks)
+
+pub returns-then-keys-key_len-clause-taken : goal.returns-then-keys-key_len-clause-taken
+returns-then-keys-key_len-clause-taken g c =
+    let size = c.key_len-key_len.ensures in
+    c.classify_alone.ensures.taken
+    ∙ its_transitions c.args.table.now c.args.keys.now (omega (arith, size.some, size.value))
+    (omega (arith, c.if-keys-key_len.true, size.value))
+
+pub returns-then-keys-key_len-clause-steps : goal.returns-then-keys-key_len-clause-steps
+returns-then-keys-key_len-clause-steps g c =
+    let size = c.key_len-key_len.ensures in
+    let only = its_transitions c.args.table.now c.args.keys.now (omega (arith, size.some, size.value))
+    (omega (arith, c.if-keys-key_len.true, size.value)) in
+    omega (arith, c.classify_alone.ensures.steps, only)
 
 pub returns-clause-verdicts : goal.returns-clause-verdicts
 returns-clause-verdicts g c =
