@@ -1,5 +1,5 @@
 -- Examples of what calls do, each checked by evaluation.
-use Rattle.std.specs.Prelude.{◌≡◌, ℕ, List, [], ◌∷◌, ◌*◌, map, refl}
+use Rattle.std.specs.Prelude.{◌≡◌, [], ◌∷◌, ◌*◌, map, refl}
 use Rattle.acl_c.specs.Calls.{budget_by}
 
 -- budgets that are given, the greatest among them, of a table that would take more words than all

@@ -60,7 +60,8 @@ row_none table noted row is = record {
 
 -- the row of one trie more
 pub row_more : {table : TableView} {noted row other new : List ℕ} {n : ℕ} → IsRowOf table noted n row →
-    get_or table.rows (index_of (slice_index noted n)) [] ≡ other → new ≡ joined_row row other → IsRowOf table noted (n + 1) new
+    get_or table.rows (index_of (slice_index noted n)) [] ≡ other → new ≡ joined_row row other →
+    IsRowOf table noted (n + 1) new
 row_more {table = table} {noted = noted} {row = row} {other = other} {new = new} {n = n} r there is =
     let f = λ (category trie : ℕ). slice_index (get_or table.rows (index_of (slice_index noted trie)) []) category in
     record {
@@ -107,8 +108,8 @@ joined_more {table = table} {old = old} {rows = rows} {keys = keys} {n = n} {not
       len = length-set rows n row ∙ j.len;
       others = drop-set-lt keys rows n row below ∙ j.others;
       done = λ k below. elim (cases_eq k n) [
-        | inl same ↦ subst (λ (m : ℕ). IsRowOf table (get_or old m []) (length table.roots) (get_or (set rows n row) m []))
-            (sym same)
+        | inl same ↦ subst
+            (λ (m : ℕ). IsRowOf table (get_or old m []) (length table.roots) (get_or (set rows n row) m [])) (sym same)
             (subst (λ (xs : List ℕ). IsRowOf table (get_or old n []) (length table.roots) xs)
             (sym (get_or-set_same rows n row [] (omega (arith, there, j.len))))
             (subst (λ (xs : List ℕ). IsRowOf table xs (length table.roots) row)
@@ -121,8 +122,9 @@ joined_more {table = table} {old = old} {rows = rows} {keys = keys} {n = n} {not
           get_or-set_other rows n k row [] other ∙ j.later k (omega (arith, past));
     }
 
-module _ {table : TableView} {keys : List ℕ} {noted : List (List ℕ)} (new : List (List ℕ)) (a : AreAllNoted table keys noted)
-    (r : AreRowsOf table noted (keys_in table keys) new) (room : keys_in table keys ≤ length new) where
+module _ {table : TableView} {keys : List ℕ} {noted : List (List ℕ)} (new : List (List ℕ))
+    (a : AreAllNoted table keys noted) (r : AreRowsOf table noted (keys_in table keys) new)
+    (room : keys_in table keys ≤ length new) where
   -- each word of a row is the joined one
   word_joined : (key category : ℕ) → key < keys_in table keys → category < row_len →
       slice_index (get_or (take (keys_in table keys) new) key []) category

@@ -71,7 +71,7 @@ pub record HasCome (table : TableView) (flight : Flight) (rows : ℕ) : Type 0 w
   pub row : is_match flight.word ≡ true → index_of flight.word < length table.rows
   pub key : flight.key < rows
 
--- there is a place for the note of the flight's word; and where there is one trie, it is of that one
+-- there is a place for the note of the flight's word; where there is one trie, it is of that one
 pub record HasRoom (one : Bool) (flight : Flight) (rows : ℕ) : Type 0 where
   pub key : flight.key < rows
   pub trie : flight.trie < row_len
@@ -101,8 +101,8 @@ IsNotedAs table keys rows job = (index_of (slice_index (slice_index_or rows job.
     ≡ walk_row table job.trie (key_at table keys job.key))
     × (walk_row table job.trie (key_at table keys job.key) < length table.rows)
 
--- each busy slot holds a walk as far as it went, and each job given out is on its way, or its row is
--- noted
+-- each busy slot holds a walk as far as it went, and each job given out is on its way, or its row
+-- is noted
 pub record AreNoted (table : TableView) (keys : List ℕ) (machine : Machine) (rows : List (List ℕ))
     : Type 0 where
   pub flights : All (λ held. IfSome held (IsInWalk table keys machine.given)) machine.slots
