@@ -1,21 +1,24 @@
 -- Four of up to sixteen walks in step.
 use Rattle.std.proofs.Common.{◌≡◌, ℕ, ◌+◌, ◌-◌, ◌*◌, ◌%◌, ◌<◌, ◌≤◌, ◌^◌, Bool, true, false, List, refl, sym, ap, ◌∙◌}
-use Rattle.std.proofs.Common.{arith, subst, length, drop, take, inl, inr}
+use Rattle.std.proofs.Common.{arith, subst, length, drop, take, inl, inr, ltb}
 use Rattle.std.specs.Prelude.{slice_index, if◌then◌else◌}
 use Rattle.std.proofs.lemmas.List.{get_or-take, get_or-drop, take_all}
-use Rattle.std.proofs.lemmas.Bool.{cases_lt}
+use Rattle.std.proofs.lemmas.Bool.{cases_Bool, cases_lt}
+use Rattle.std.proofs.lemmas.Bool.Decides.{nat_tests}
 use Rattle.std.proofs.Math.Nat.{mul-le-mul_right}
 use Rattle.table_sizes.specs.Groups.{max_key_len}
 use Rattle.flat_table.specs.Word.{index_of, is_match}
-use Rattle.flat_table.specs.Table.{TableView, places_of}
+use Rattle.flat_table.specs.Table.{TableView, level_of, places_of}
 use Rattle.flat_table.specs.Walk.{root_of, transitions_after, walk_transitions}
 use Rattle.flat_table.specs.Batch.{key_at}
 use Rattle.flat_table.specs.Laws.{WalksStay}
-use Rattle.flat_table.proofs.Offered.{Stands, begins, ends_at_match, row_is, transitions_are}
-use Rattle.scalar_walk.specs.Lanes.{lane_key, word_in}
+use Rattle.flat_table.proofs.Offered.{Stands, begins, ends_at_match, row_at_match, transitions_at_match}
+use Rattle.scalar_walk.specs.Lanes.{HaveEnded, lane_key, word_in}
 use Rattle.scalar_walk.specs.Rows.{CanGoOn, EndsAt, GoesOn}
 use Rattle.scalar_walk.specs.declared.vectors.Four.{Four}
 use Rattle.scalar_walk.proofs.LaneKeys.{lane_own, lane_within}
+use Rattle.scalar_walk.proofs.Stepping.{node_is_small}
+use Rattle.scalar_walk.proofs.Walks.{leads_to_node}
 use Rattle.scalar_walk.proofs.Ways.{Way, IsWay, Step, step, count_of_places, place_in_key}
 
 -- what a walk of the code goes by
@@ -210,27 +213,50 @@ module _ {way : Way} {keys : List ℕ} {count first n read k : ℕ} {groups : Li
         );
       }
 
--- where all places are read, each has ended at a row, and all its transitions are counted
-module _ {way : Way} {keys : List ℕ} {count first n : ℕ} {walks : Four} (w : FourWalks way keys count first n walks)
-    (all : n ≡ length way.places) where
-  -- all places of the trie are read
-  all_read : n ≡ length (places_of way.table way.trie)
-  all_read = all ∙ count_of_places way w.is_way
+-- where all places are read or all four have ended, each stands at a match
+pub four_over : {way : Way} {keys : List ℕ} {count first n four fours : ℕ} {walks : Four} →
+    FourWalks way keys count first n walks → n ≤ length way.places →
+    HaveEnded (length way.places) n four fours walks.lows → four < fours → (i : ℕ) → i < 4 →
+    is_match (word_in walks.lows walks.highs i) ≡ true
+four_over {way = way} {keys = keys} {count = count} {first = first} {n = n} {walks = walks} w within over there i few =
+    let key : List ℕ = key_of way keys count (first + i) in
+    let low : ℕ = slice_index walks.lows i in
+    let word : ℕ = word_in walks.lows walks.highs i in
+    elim over [
+      | inl past ↦
+          let all : n ≡ length (places_of way.table way.trie) =
+          omega (arith, past, within, count_of_places way w.is_way) in
+          ends_at_match way.table way.trie key w.is_way.sound w.is_way.there word
+          (subst (λ (k : ℕ). Stands way.table way.trie key k word) all (w.stands i few))
+      | inr ended ↦
+          elim (cases_Bool (is_match word)) [
+            | inl match ↦ match
+            | inr way_on ↦
+                let node = leads_to_node (level_of way.table way.trie n) word ((w.stands i few).level way_on) in
+                let small = node_is_small low (slice_index walks.highs i) (ended there i few).1 node in
+                absurd (is_small low (ended there i few).0 small)
+          ]
+    ]
+  where
+    is_small : (low : ℕ) → 2 ^ 31 ≤ low → ltb low 2147483648 ≡ true → ⊥
+    is_small low great small = grind (arith, nat_tests, great, small)
 
+-- where each stands at a match, each has ended at a row, and all its transitions are counted
+module _ {way : Way} {keys : List ℕ} {count first n : ℕ} {walks : Four} (w : FourWalks way keys count first n walks)
+    (over : (i : ℕ) → i < 4 → is_match (word_in walks.lows walks.highs i) ≡ true) where
   -- each walk of a key of its own has ended at the row that its word names
   pub lane_ends : (i row : ℕ) → i < 4 → first + i < count → row ≡ slice_index walks.lows i % 2 ^ 29 →
       EndsAt way.table way.trie (key_at way.table keys (first + i)) row
   lane_ends i row few own is_row =
       let key : List ℕ = key_of way keys count (first + i) in
       let word : ℕ = word_in walks.lows walks.highs i in
-      let s = subst (λ (k : ℕ). Stands way.table way.trie key k word) all_read (w.stands i few) in
-      let match = ends_at_match way.table way.trie key w.is_way.sound w.is_way.there word s in
+      let s = w.stands i few in
       let named : row ≡ index_of word = omega (arith, is_row) in
       subst (λ (lane : ℕ). EndsAt way.table way.trie (key_at way.table keys lane) row)
       (lane_own count (first + i) own)
       record {
-        is = named ∙ ap index_of s.is ∙ sym (row_is way.table way.trie key);
-        there = omega (arith, named, s.row match);
+        is = named ∙ ap index_of s.is ∙ sym (row_at_match way.table way.trie key n (rw (sym s.is) (over i few)));
+        there = omega (arith, named, s.row (over i few));
       }
 
   -- and has taken its transitions
@@ -238,14 +264,16 @@ module _ {way : Way} {keys : List ℕ} {count first n : ℕ} {walks : Four} (w :
       slice_index walks.taken i ≡ walk_transitions way.table way.trie (key_at way.table keys (first + i))
   lane_took i few own =
       w.taken_is i few
-      ∙ ap (λ (k : ℕ). transitions_after way.table way.trie (key_of way keys count (first + i)) k) all_read
-      ∙ sym (transitions_are way.table way.trie (key_of way keys count (first + i)))
+      ∙ sym (transitions_at_match way.table way.trie (key_of way keys count (first + i)) n
+      (rw (sym (w.stands i few).is) (over i few)))
       ∙ ap (λ (lane : ℕ). walk_transitions way.table way.trie (key_at way.table keys lane))
       (lane_own count (first + i) own)
 
-  -- each walk has taken at most as many as a key may have bytes
-  pub lane_took_few : length way.places ≤ max_key_len → (i : ℕ) → i < 4 → slice_index walks.taken i ≤ max_key_len
-  lane_took_few short i few = omega (arith, w.few i few, all, short)
+-- each walk has taken at most as many as a key may have bytes
+pub lane_took_few : {way : Way} {keys : List ℕ} {count first n : ℕ} {walks : Four} →
+    FourWalks way keys count first n walks → n ≤ max_key_len → (i : ℕ) → i < 4 →
+    slice_index walks.taken i ≤ max_key_len
+lane_took_few w short i few = omega (arith, w.few i few, short)
 
 -- what holds of each of four fours holds of each of sixteen
 pub each_of_fours : (P : ℕ → Type 0) → ((i : ℕ) → i < 4 → P (0 + i)) → ((i : ℕ) → i < 4 → P (4 + i)) →

@@ -16,7 +16,7 @@ match_is_great low high small match =
     grind (arith, nat_tests, great)
 
 -- what leads to a node has a small one
-node_is_small : (low high : ℕ) → low < 2 ^ 32 → is_node (low + 2 ^ 32 * high) ≡ true → ltb low 2147483648 ≡ true
+pub node_is_small : (low high : ℕ) → low < 2 ^ 32 → is_node (low + 2 ^ 32 * high) ≡ true → ltb low 2147483648 ≡ true
 node_is_small low high small node =
     let kind : kind_of (low + 2 ^ 32 * high) < 4 = grind (arith, nat_tests, node) in
     let few : low < 2147483648 = omega (arith, kind, small) in

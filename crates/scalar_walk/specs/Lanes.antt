@@ -34,6 +34,16 @@ sum_below f (suc n) = sum_below f n + f n
 abbrev pub ended : ℕ
 ended = 2 ^ 31
 
+-- a low half is that of a word that ends a walk
+abbrev pub IsEnded : ℕ → Type 0
+IsEnded low = (ended ≤ low) × (low < 2 ^ 32)
+
+-- after n of so many places all are read, or the walks of a four, if it is one of so many, have
+-- ended
+abbrev pub HaveEnded : ℕ → ℕ → ℕ → ℕ → List ℕ → Type 0
+HaveEnded places n four fours lows = (places ≤ n) ⊎ (four < fours → (i : ℕ) → i < 4 →
+    IsEnded (slice_index lows i))
+
 -- 1 if the lane is one of the first of so many, and its low half is that of a word on the way
 abbrev pub counts : List ℕ → ℕ → ℕ → ℕ
 counts lows own lane = if nat_lt lane own && nat_lt (slice_index lows lane) ended then 1 else 0

@@ -1,16 +1,16 @@
 //! Up to sixteen walks through one trie, in step: their loads of words don't wait for each other.
 
-ghost use Rattle.std.specs.Prelude.{◌≡◌, ℕ, ◌+◌, ◌*◌, ◌%◌, ◌<◌, ◌≤◌, ◌==◌, ◌&&◌, true};
+ghost use Rattle.std.specs.Prelude.{◌≡◌, ℕ, ◌+◌, ◌*◌, ◌%◌, ◌<◌, ◌≤◌, ◌==◌, ◌&&◌, true, false};
 ghost use Rattle.std.specs.Prelude.{length, slice_index};
 ghost use Rattle.table_sizes.specs.Groups.{max_key_len};
 ghost use Rattle.flat_table.specs.Batch.{key_at};
 ghost use Rattle.flat_table.specs.Word.{indexes};
-ghost use Rattle.scalar_walk.specs.Lanes.{IsGroupLen, HasLanes, lane_key, own_lanes};
+ghost use Rattle.scalar_walk.specs.Lanes.{IsGroupLen, HasLanes, HaveEnded, lane_key, own_lanes};
 ghost use Rattle.scalar_walk.specs.Lanes.{counted, sum_below, word_in};
 ghost use Rattle.scalar_walk.specs.Rows.{CanGoOn, EndsAt, GoesOn, walks_below};
 
 use crate::side_by_side::walk_side_by_side;
-use crate::vectors::{Four, begin, groups_at, step, words_taken, write_ends};
+use crate::vectors::{Four, begin, groups_at, is_one_on_way, step, words_taken, write_ends};
 use crate::walk::walk_one;
 use flat_table::laws::walks_stay;
 use flat_table::{Steps, Table};
@@ -168,11 +168,36 @@ fn end_in<const FOURS: usize>(
     }
 }
 
+/// Whether there is a place to read after so many, and a walk of so many fours is on its way.
+#[inline]
+fn is_left<const FOURS: usize>(
+    places: &[u16],
+    n: usize,
+    first: Four,
+    second: Four,
+    third: Four,
+    fourth: Four,
+) -> bool
+    ensures more { result ≡ true → n < length places.now }
+    ensures first { result ≡ false → HaveEnded (length places.now) n 0 FOURS first.lows }
+    ensures second { result ≡ false → HaveEnded (length places.now) n 1 FOURS second.lows }
+    ensures third { result ≡ false → HaveEnded (length places.now) n 2 FOURS third.lows }
+    ensures fourth { result ≡ false → HaveEnded (length places.now) n 3 FOURS fourth.lows }
+{
+    // Mostly the first of them is on its way, and no other one is asked.
+    n < places.len()
+        && (0 < FOURS && is_one_on_way(first)
+            || 1 < FOURS && is_one_on_way(second)
+            || 2 < FOURS && is_one_on_way(third)
+            || 3 < FOURS && is_one_on_way(fourth))
+}
+
 /// The walks of so many keys, which stand one after the other, through the trie, by so many fours
 /// of lanes: writes the rows at which they ended, and says how many transitions they took together.
 ///
-/// A lane without a key of its own walks the last key again, which isn't counted. It is not
-/// inlined, so that its loop has all registers, whatever stands around the call.
+/// A lane without a key of its own walks the last key again, which isn't counted. No place is read
+/// once all walks have ended: if few packets match a rule, that is early. It is not inlined, so
+/// that its loop has all registers, whatever stands around the call.
 #[inline(never)]
 pub(crate) fn walk_in_step<const FOURS: usize, const ALL: bool, L: Ledger>(
     table: &Table,
@@ -206,7 +231,7 @@ pub(crate) fn walk_in_step<const FOURS: usize, const ALL: bool, L: Ledger>(
     let (mut first, mut second, mut third, mut fourth) = (walks, walks, walks, walks);
     let places = table.places(trie);
     let mut n = 0;
-    while n < places.len() {
+    while is_left::<FOURS>(places, n, first, second, third, fourth) {
         let from = usize::from(places[n]);
         let read = group_len(places, n);
         let of_first = read_in::<FOURS>(0, keys, &at_first, from, read);

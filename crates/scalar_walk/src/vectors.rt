@@ -14,10 +14,11 @@
 //! After DPDK's `lib/acl/acl_run_sse.h`, whose vectors have four lanes too.
 
 ghost use Rattle.std.specs.Prelude.{◌≡◌, ℕ, ◌+◌, ◌-◌, ◌*◌, ◌/◌, ◌%◌, ◌<◌, ◌≤◌, ◌^◌, ◌==◌, true, length};
-ghost use Rattle.std.specs.Prelude.{slice_index, All, min, if◌then◌else◌, nat_lt, ◌&&◌};
+ghost use Rattle.std.specs.Prelude.{slice_index, All, min, if◌then◌else◌, nat_lt, ◌&&◌, false};
 ghost use Rattle.table_sizes.specs.Groups.{max_key_len};
 ghost use Rattle.flat_table.specs.Word.{full, indexes, quad, is_node, next_place};
-ghost use Rattle.scalar_walk.specs.Lanes.{IsGroupLen, counted, counts, ended, word_in, sum_below};
+ghost use Rattle.scalar_walk.specs.Lanes.{IsEnded, IsGroupLen, counted, counts, ended, word_in};
+ghost use Rattle.scalar_walk.specs.Lanes.{sum_below};
 ghost use Rattle.scalar_walk.specs.Rows.{CanGoOn, GoesOn};
 
 use crate::kinds::{FULL, QUAD};
@@ -331,6 +332,14 @@ pub(crate) fn step<L: Ledger>(
         own,
         steps,
     )
+}
+
+/// Whether one of four walks is on its way.
+#[inline]
+pub(crate) fn is_one_on_way(walks: Four) -> bool
+    ensures { result ≡ false → (i : ℕ) → i < 4 → IsEnded (slice_index walks.lows i) }
+{
+    walks.lows.simd_lt(u32x4::splat(ENDED)).to_bitmask() != 0
 }
 
 /// Writes the rows that four walks name, from a place on.

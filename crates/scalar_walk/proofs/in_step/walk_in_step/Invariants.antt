@@ -5,8 +5,8 @@ use Rattle.scalar_walk.specs.Lanes.{counted}
 use Rattle.scalar_walk.proofs.InStep.{FourRead, FourWalks, way_of}
 use Rattle.scalar_walk.proofs.in_step.walk_in_step.Given as goal
 
-abbrev pub invariant-loop-n : goal.invariant-loop-n
-invariant-loop-n g l =
+abbrev pub invariant-loop-words : goal.invariant-loop-words
+invariant-loop-words g l =
     (0 < g.row.FOURS → FourWalks (way_of l.table l.trie l.places l.words) l.keys l.count 0 l.n l.first)
     × (1 < g.row.FOURS → FourWalks (way_of l.table l.trie l.places l.words) l.keys l.count 4 l.n l.second)
     × (2 < g.row.FOURS → FourWalks (way_of l.table l.trie l.places l.words) l.keys l.count 8 l.n l.third)
@@ -15,8 +15,8 @@ invariant-loop-n g l =
     × (l.steps ≡ l.fn.steps + counted l.first.taken l.own_first + counted l.second.taken l.own_second
     + counted l.third.taken l.own_third + counted l.fourth.taken l.own_fourth)
 
-abbrev pub decreases-loop-n : goal.decreases-loop-n
-decreases-loop-n g l = length (places_of l.table l.trie) - l.n
+abbrev pub decreases-loop-words : goal.decreases-loop-words
+decreases-loop-words g l = length (places_of l.table l.trie) - l.n
 
 abbrev pub invariant-loop-place : goal.invariant-loop-place
 invariant-loop-place g l =
