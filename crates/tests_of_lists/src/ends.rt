@@ -27,49 +27,53 @@ fn a_list_of_each_form_comes_to_its_rule_file(rt: HostRuntime) -> Result<(), Fai
     Ok(())
 }
 
+/// The words of a run, its list, and what is told after the program's name.
+type Refused = (&'static [&'static str], &'static str, &'static str);
+
+const LIMITED: &str =
+    "*filter\n:INPUT ACCEPT [0:0]\n-A INPUT -m limit --limit 3/sec -j ACCEPT\nCOMMIT\n";
+
+const REFUSED: [Refused; 7] = [
+    (
+        &["iptables", "list", "WEB"],
+        SAVED,
+        "list: line 0: chain without a policy",
+    ),
+    (
+        &["iptables", "list", "NONE"],
+        SAVED,
+        "list: line 0: no such chain",
+    ),
+    (
+        &["ip6tables", "list", "INPUT"],
+        SAVED,
+        "list: line 6: bad address",
+    ),
+    (
+        &["iptables", "list", "INPUT"],
+        LIMITED,
+        "list: line 3: matches what no rule file says",
+    ),
+    (
+        &["nft", "list", "in"],
+        SAVED,
+        "list: object 0: no JSON in UTF-8",
+    ),
+    (
+        &["nft", "list", "out"],
+        RULESET,
+        "list: object 0: no base chain of this name",
+    ),
+    (
+        &["cisco", "list", "INSIDE"],
+        ROUTER,
+        "list: line 3: no such list",
+    ),
+];
+
 #[test]
 fn what_no_rule_file_says_is_refused_by_its_place(rt: HostRuntime) -> Result<(), Fail> {
-    let limited =
-        "*filter\n:INPUT ACCEPT [0:0]\n-A INPUT -m limit --limit 3/sec -j ACCEPT\nCOMMIT\n";
-    // The words, the list, and what is told after the program's name.
-    let cases: [(&[&str], &str, &str); 7] = [
-        (
-            &["iptables", "list", "WEB"],
-            SAVED,
-            "list: line 0: chain without a policy",
-        ),
-        (
-            &["iptables", "list", "NONE"],
-            SAVED,
-            "list: line 0: no such chain",
-        ),
-        (
-            &["ip6tables", "list", "INPUT"],
-            SAVED,
-            "list: line 6: bad address",
-        ),
-        (
-            &["iptables", "list", "INPUT"],
-            limited,
-            "list: line 3: matches what no rule file says",
-        ),
-        (
-            &["nft", "list", "in"],
-            SAVED,
-            "list: object 0: no JSON in UTF-8",
-        ),
-        (
-            &["nft", "list", "out"],
-            RULESET,
-            "list: object 0: no base chain of this name",
-        ),
-        (
-            &["cisco", "list", "INSIDE"],
-            ROUTER,
-            "list: line 3: no such list",
-        ),
-    ];
-    for (words, list, cause) in cases {
+    for (words, list, cause) in REFUSED {
         let told = told(&rt, cause)?;
         let want = (3, b"" as &[u8], told.as_slice(), [0; 4]);
         expect(&rt, words, list.as_bytes(), [0; 3], want)?;
