@@ -239,8 +239,8 @@ fn list_rules(
 ///
 /// Each entry is read from left to right: `permit` or `deny`, a protocol or a group of services,
 /// the source with its ports, the destination with its ports, and `log` or `log-input` with at most
-/// one word. Whatever else stands in an entry of the list is a fault. A line that is no entry has to
-/// begin a part of a configuration that is known here, or to belong to one.
+/// one word. Whatever else stands in an entry of the list is a fault. A line that is no entry has
+/// to begin a part of a configuration that is known here, or to belong to one.
 ///
 /// Groups (`object-group network NAME`, `object-group service NAME`) may stand anywhere in the
 /// file. Members are read where an entry needs them. Of networks they are `any`, a host, a range,

@@ -18,6 +18,6 @@ mod output;
 mod status;
 
 pub use input::read_file;
-pub use message::message_line;
+pub use message::{message_line, usage_kind};
 pub use output::make_file;
 pub use status::Status;

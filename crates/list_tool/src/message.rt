@@ -2,13 +2,12 @@
 
 ghost use Rattle.std.specs.Prelude.{◌≡◌, ◌≤◌, length, take};
 ghost use Rattle.acl_report.specs.declared.line.TheConstants.{LINE_ROOM};
-ghost use Rattle.command_ending.specs.Message.{usage_text};
 ghost use Rattle.list_tool.specs.Message.{cisco_text, list_text, message, numbered, object_text};
 ghost use Rattle.list_tool.specs.Message.{place_number, place_text, rule_text, start_text, table_text};
 
 use crate::status::{ListKind, ListPlace, ListStatus};
 use acl_report::{LINE_ROOM, append, append_number};
-use command_words::UsageKind;
+use command_ending::usage_kind;
 use iptables_reader::LineKind;
 use nft_reader::{ObjectKind, RuleKind, StartFault};
 
@@ -70,20 +69,6 @@ fn place_number(place: ListPlace) -> u64
     match place {
         ListPlace::Line(number) | ListPlace::Handle(number) => u64::from(number),
         ListPlace::Object(number) => number as u64,
-    }
-}
-
-fn usage_kind(kind: UsageKind) -> &'static [u8]
-    ensures text { result.now ≡ usage_text kind }
-    ensures short { length result.now ≤ 40 }
-{
-    match kind {
-        UsageKind::MissingCommand => b"missing command",
-        UsageKind::UnknownCommand => b"unknown command",
-        UsageKind::MissingName => b"missing name",
-        UsageKind::UnknownOption => b"unknown option",
-        UsageKind::RepeatedOption => b"repeated option",
-        UsageKind::BadValue => b"bad value",
     }
 }
 

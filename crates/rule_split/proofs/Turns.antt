@@ -82,7 +82,8 @@ module _ (words : List ℕ → ℕ) (budget : ℕ) where
   unfolding to_split split_place
   split_there before later group can below up above =
       let groups : List (List ℕ) = before ++ group ∷ later in
-      let most : most_words words budget groups ≡ cost group = most_there 0 before later group (omega arith) can below up in
+      let most : most_words words budget groups ≡ cost group =
+      most_there 0 before later group (omega arith) can below up in
       let place : position_or_len (λ other. can_split other && cost other == cost group) groups
       ≡ length before =
       first_at (λ other. can_split other && cost other == cost group) before later group

@@ -9,7 +9,7 @@
 //! ```
 //!
 //! - `walk`: one key through one trie.
-//! - `side_by_side`: two or three keys through one trie.
+//! - `side_by_side`: two to four keys through one trie.
 //! - `in_step`: up to sixteen keys through one trie, in step.
 //! - `vectors`: one step of four of them, by vectors of four lanes.
 //! - `kinds`: the kinds of words, as `walk` tests them.

@@ -18,7 +18,8 @@ const GATEWAY: &str =
     :late - [0:0]\n\
     :trusted - [0:0]\n\
     :web - [0:0]\n\
-    -A FORWARD -s 198.51.100.0/24 -m comment --comment \"a network that sends \\\"noise\\\"\" -j DROP\n\
+    -A FORWARD -s 198.51.100.0/24 -m comment \
+    --comment \"a network that sends \\\"noise\\\"\" -j DROP\n\
     -A FORWARD ! -s 10.0.0.0/8 -p tcp -m tcp --dport 22 -j REJECT --reject-with tcp-reset\n\
     -A FORWARD -d 192.0.2.0/24 -p tcp -m multiport --dports 80,443,8000:8080 -j web\n\
     -A FORWARD -m iprange --src-range 10.1.0.5-10.1.0.20 -j trusted\n\
