@@ -12,20 +12,20 @@ use Rattle.scalar_walk.proofs.Below.{sum_none, sum_more}
 
 -- the rows of the first n lanes are written from a place on, and those before them stay
 pub record RowsTo (lows old : List ℕ) (at n : ℕ) (rows : List ℕ) : Type 0 where
-  pub len : length rows ≡ 16
+  pub len : length rows ≡ length old
   pub written : (k : ℕ) → k < n → get_or rows (at + k) 0 ≡ get_or lows k 0 % indexes
   pub others : (k : ℕ) → k < at → get_or rows k 0 ≡ get_or old k 0
 
 -- before the first lane no row is written
-pub rows_none : (lows old : List ℕ) (at : ℕ) → length old ≡ 16 → RowsTo lows old at 0 old
-rows_none lows old at len = record {
-  len = len;
+pub rows_none : (lows old : List ℕ) (at : ℕ) → RowsTo lows old at 0 old
+rows_none lows old at = record {
+  len = refl;
   written = λ k h. absurd (omega (arith, h));
   others = λ k h. refl;
 }
 
 -- the row of one more lane is written
-pub rows_more : {lows old rows : List ℕ} {at n row : ℕ} → RowsTo lows old at n rows → n < 4 → at + 4 ≤ 16 →
+pub rows_more : {lows old rows : List ℕ} {at n row : ℕ} → RowsTo lows old at n rows → n < 4 → at + 4 ≤ length old →
     row ≡ bit_and (get_or lows n 0) 536870911 → RowsTo lows old at (n + 1) (set rows (at + n) row)
 rows_more {lows = lows} {rows = rows} {at = at} {n = n} {row = row} r few room row_is = record {
   len = omega (arith, length-set rows (at + n) row, r.len);

@@ -101,6 +101,22 @@ pub record FourRead (way : Way) (keys : List ℕ) (count first n read : ℕ) (gr
   pub group : GroupOf way keys count first n read groups
   pub walks_are : FourWalks way keys count first (n + k) walks
 
+-- places that stand one after the other lie in the key
+pub group_in_key : {way : Way} → IsWay way → (n : ℕ) {read from : ℕ} → 0 < read → n + read ≤ length way.places →
+    ((k : ℕ) → k < read → slice_index way.places (n + k) ≡ slice_index way.places n + k) →
+    from ≡ slice_index way.places n → from + read ≤ way.table.key_len
+group_in_key {way = way} w n {read = read} some within follow from_is =
+    let last : ℕ = read - 1 in
+    let last_is : slice_index way.places (n + last) ≡ slice_index way.places n + last =
+    follow last (omega (arith, some)) in
+    let below : slice_index way.places n + last < way.table.key_len =
+    omega (
+      arith,
+      last_is,
+      place_in_key w (n + last) (slice_index way.places (n + last)) (omega (arith, within, some)) refl,
+    ) in
+    omega (arith, below, some, from_is)
+
 -- the bytes that are read are those of the keys
 pub bytes_in_keys : {way : Way} {keys : List ℕ} {count first n : ℕ} {walks : Four} →
     FourWalks way keys count first n walks → {read from : ℕ} {at : List ℕ} → 0 < read →
@@ -108,21 +124,15 @@ pub bytes_in_keys : {way : Way} {keys : List ℕ} {count first n : ℕ} {walks :
     ((k : ℕ) → k < read → slice_index way.places (n + k) ≡ slice_index way.places n + k) →
     from ≡ slice_index way.places n → AreBegins way count first at → (i : ℕ) → i < 4 →
     slice_index at i + from + read ≤ length keys
-bytes_in_keys {way = way} {count = count} {first = first} {n = n} w {read = read} some within follow from_is begun i
-    few =
-    let len : ℕ = way.table.key_len in
-    let last : ℕ = read - 1 in
-    let last_is : slice_index way.places (n + last) ≡ slice_index way.places n + last =
-    follow last (omega (arith, some)) in
-    let below : slice_index way.places n + last < len =
+bytes_in_keys {way = way} {count = count} {first = first} {n = n} w some within follow from_is begun i few =
+    let whole = mul-le-mul_right way.table.key_len (lane_within count (first + i) w.keys_are.some) in
     omega (
       arith,
-      last_is,
-      place_in_key w.is_way (n + last) (slice_index way.places (n + last))
-          (omega (arith, within, some)) refl,
-    ) in
-    let whole = mul-le-mul_right len (lane_within count (first + i) w.keys_are.some) in
-    omega (arith, whole, below, some, from_is, begun.each i few, w.keys_are.whole)
+      whole,
+      group_in_key w.is_way n some within follow from_is,
+      begun.each i few,
+      w.keys_are.whole,
+    )
 
 -- before the first of them
 pub group_begins : {way : Way} {keys : List ℕ} {count first n : ℕ} {walks : Four} →

@@ -33,7 +33,7 @@ own_all : (count first : ℕ) → 0 < count - (first + 4) → own_lanes count fi
 own_all count first some = grind (arith, nat_tests, some)
 
 -- the sum over the lanes from one on is that over four of them and that over the later ones
-sum_of_four : (f : ℕ → ℕ) (count first : ℕ) → sum_below (λ i. f (first + i)) (count - first)
+pub sum_of_four : (f : ℕ → ℕ) (count first : ℕ) → sum_below (λ i. f (first + i)) (count - first)
     ≡ sum_below (λ i. f (first + i)) (own_lanes count first)
     + sum_below (λ i. f (first + 4 + i)) (count - (first + 4))
 sum_of_four f count first =

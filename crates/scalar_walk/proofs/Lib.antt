@@ -12,4 +12,5 @@ pub mod Sides
 pub mod Stepping
 pub mod Walks
 pub mod Ways
+pub mod WideSteps
 pub mod Offered

@@ -308,7 +308,7 @@ module _ {three four : Bool} {way : Way} {keys : List ℕ} {count n first second
 
 module _ (a b c d : ℕ) where
   -- four rows are written at the first four places
-  pub rows_of : (rows : List ℕ) → length rows ≡ 16 → (get_or (set (set (set (set rows 0 a) 1 b) 2 c) 3 d) 0 0 ≡ a)
+  pub rows_of : (rows : List ℕ) → 4 ≤ length rows → (get_or (set (set (set (set rows 0 a) 1 b) 2 c) 3 d) 0 0 ≡ a)
       × (get_or (set (set (set (set rows 0 a) 1 b) 2 c) 3 d) 1 0 ≡ b)
       × (get_or (set (set (set (set rows 0 a) 1 b) 2 c) 3 d) 2 0 ≡ c)
       × (get_or (set (set (set (set rows 0 a) 1 b) 2 c) 3 d) 3 0 ≡ d)

@@ -25,6 +25,11 @@ pub record HasLanes (fours count : ℕ) : Type 0 where
   pub few : fours ≤ 4
   pub enough : count ≤ 4 * fours
 
+-- there is room, for sixteen or for sixty-four, for so many keys that are walked together
+pub record HasRoom (room count : ℕ) : Type 0 where
+  pub of : (room ≡ 16) ⊎ (room ≡ 64)
+  pub few : count ≤ room
+
 -- the sum of a function over the numbers below n
 unfoldable pub sum_below : (ℕ → ℕ) → ℕ → ℕ
 sum_below f zero = 0

@@ -71,6 +71,24 @@ pub record GoesOn (words : List ℕ) (word byte next taken new_taken : ℕ) : Ty
   pub word_is : next ≡ moved words word byte
   pub taken_is : new_taken ≡ taken + (if is_match word then 0 else 1)
 
+-- Where a walk that stands at the word reads its next one by the byte. At a match it reads word 0.
+pub record ReadsAt (word byte at : ℕ) : Type 0 where
+  pub node : is_node word ≡ true → at ≡ next_place word byte
+  pub over : is_match word ≡ true → at ≡ 0
+
+-- A walk that stands at the word can take the word at a place: it is there, the walk's word is a
+-- match or leads to a node, and the walk took few words so far.
+pub record CanTake (words : List ℕ) (word at taken : ℕ) : Type 0 where
+  pub node : is_match word ≡ false → is_node word ≡ true
+  pub there : at < length words
+  pub few : taken < max_key_len
+
+-- A walk that stands at the word takes that at the place, and one more is counted. At a match it
+-- stays.
+pub record Takes (words : List ℕ) (word at next taken new_taken : ℕ) : Type 0 where
+  pub word_is : next ≡ (if is_match word then word else slice_index words at)
+  pub taken_is : new_taken ≡ taken + (if is_match word then 0 else 1)
+
 -- ---- the first n keys of some, one after the other
 
 -- how many transitions their walks through the trie take

@@ -8,13 +8,14 @@ ghost use Rattle.table_sizes.specs.Sizes.{max_tries, row_len};
 ghost use Rattle.flat_table.specs.Walk.{joined, key_transitions, userdatas};
 ghost use Rattle.flat_table.specs.Batch.{LengthsFit, key_at, keys_in, key_verdicts, batch_verdicts};
 ghost use Rattle.flat_table.specs.Batch.{batch_transitions, most_of_batch};
-ghost use Rattle.scalar_walk.specs.Lanes.{pieces_below};
+ghost use Rattle.scalar_walk.specs.Lanes.{HasRoom, pieces_below};
 ghost use Rattle.scalar_walk.specs.Rows.{Reaches, joined_rows, key_winners, row_verdicts, row_winners};
 ghost use Rattle.scalar_walk.specs.Rows.{transitions_below, verdicts_below, winners_below};
 ghost use Rattle.scalar_walk.specs.Rows.{winners_of, batch_winners};
 
-use crate::in_step::{IN_STEP, walk_some};
+use crate::in_step::IN_STEP;
 use crate::walk::walk_one;
+use crate::wide::{ENOUGH, WIDE, is_far, walk_keys};
 use flat_table::{Steps, Table, userdata_of};
 use rule_set::Categories;
 use std::marker::Brand;
@@ -41,14 +42,20 @@ struct Asked {
     marks: usize,
 }
 
-/// How many keys after so many of a batch are walked next: sixteen, or what is left.
-fn next_keys(done: usize, all: usize) -> usize
+/// How many keys after so many of a batch are walked next: up to sixty-four if the table is far and
+/// enough are left, and else up to sixteen.
+fn next_keys(done: usize, all: usize, far: bool) -> usize
     requires { done < all }
     ensures some { 0 < result }
-    ensures few { result ≤ IN_STEP }
+    ensures few { result ≤ WIDE }
     ensures within { done + result ≤ all }
 {
-    (all - done).min(IN_STEP)
+    let left = all - done;
+    if far && left >= ENOUGH {
+        left.min(WIDE)
+    } else {
+        left.min(IN_STEP)
+    }
 }
 
 /// Marks the category exactly if its word isn't 0, where there is room for the mark.
@@ -88,14 +95,14 @@ fn write_row(row: &[u64; ROW_LEN], count: usize, verdicts: &mut [u32], won: &mut
 /// reached, and the marks that are asked for.
 fn write_rows(
     rows: &[[u64; ROW_LEN]],
-    reached: &[u32; IN_STEP],
+    reached: &[u32],
     keys: usize,
     asked: Asked,
     verdicts: &mut [u32],
     won: &mut [bool],
 )
     requires there { (k : ℕ) → k < keys → slice_index reached.now k < length rows.now }
-    requires keys { keys ≤ IN_STEP }
+    requires keys { keys ≤ length reached.now }
     requires few { asked.count ≤ row_len }
     requires marks { asked.marks ≤ asked.count }
     requires room { length verdicts.old ≡ keys * asked.count }
@@ -174,37 +181,38 @@ fn reach<L: Ledger>(table: &Table, key: &[u8], steps: &mut Steps<L>) -> Reached
     Reached { rows, taken }
 }
 
-/// The rows that the walks of up to sixteen keys reach, for each key one for each trie.
-type Sixteen = [[u32; MAX_TRIES]; IN_STEP];
-
 /// Writes the row that the walk of each key through the trie reached.
-fn put_rows(reached: &mut Sixteen, trie: usize, rows: &[u32; IN_STEP])
+fn put_rows<const ROOM: usize>(
+    reached: &mut [[u32; MAX_TRIES]; ROOM],
+    trie: usize,
+    rows: &[u32; ROOM],
+)
     requires trie { trie < max_tries }
-    requires len { (k : ℕ) → k < IN_STEP →
-        length (slice_index_or reached.old k []) ≡ max_tries }
-    ensures { (k : ℕ) → k < IN_STEP → slice_index_or reached.new k []
+    requires len { (k : ℕ) → k < ROOM → length (slice_index_or reached.old k []) ≡ max_tries }
+    ensures { (k : ℕ) → k < ROOM → slice_index_or reached.new k []
         ≡ slice_set (slice_index_or reached.old k []) trie (slice_index rows.now k) }
 {
-    for lane in 0..IN_STEP {
+    for lane in 0..ROOM {
         reached[lane][trie] = rows[lane];
     }
 }
 
-/// The walks of so many keys, 1 to 16, which stand one after the other, through all tries: writes
-/// the rows that they reach, and says how many transitions they took together.
+/// The walks of so many keys, which stand one after the other, through all tries: writes the rows
+/// that they reach, for each key one for each trie, and says how many transitions they took
+/// together.
 ///
 /// The rows are written in place, since a copy of so much would wait for what was just written.
-fn reach_some<L: Ledger>(
+fn reach_some<const ROOM: usize, L: Ledger>(
     table: &Table,
     keys: &[u8],
     count: usize,
-    reached: &mut Sixteen,
+    reached: &mut [[u32; MAX_TRIES]; ROOM],
     steps: &mut Steps<L>,
 ) -> u64
     requires keys { length keys.now ≡ count * table.now.key_len }
     requires some { 0 < count }
-    requires few { count ≤ IN_STEP }
-    requires len { (k : ℕ) → k < IN_STEP →
+    requires lanes { HasRoom ROOM count }
+    requires len { (k : ℕ) → k < ROOM →
         length (slice_index_or reached.old k []) ≡ max_tries }
     ensures few { length table.now.roots ≤ max_tries }
     ensures rows { (k : ℕ) → k < count → Reaches table.now (key_at table.now keys.now k)
@@ -214,17 +222,17 @@ fn reach_some<L: Ledger>(
     ensures steps { steps.new ≡ steps.old + result }
 {
     let mut taken = 0;
-    let mut rows = [0u32; IN_STEP];
+    let mut rows = [0u32; ROOM];
     for trie in 0..table.tries() {
-        taken += walk_some(table, trie, keys, count, &mut rows, steps);
+        taken += walk_keys(table, trie, keys, count, &mut rows, steps);
         put_rows(reached, trie, &rows);
     }
     taken
 }
 
-/// Writes the verdicts and the marks of so many keys, 1 to 16, by the greatest words over the rows
-/// of all tries, and says how many transitions their walks took.
-fn join_some<L: Ledger>(
+/// Writes the verdicts and the marks of so many keys by the greatest words over the rows of all
+/// tries, and says how many transitions their walks took.
+fn join_some<const ROOM: usize, L: Ledger>(
     table: &Table,
     keys: &[u8],
     count: usize,
@@ -235,7 +243,7 @@ fn join_some<L: Ledger>(
 ) -> u64
     requires keys { length keys.now ≡ count * table.now.key_len }
     requires some { 0 < count }
-    requires at_most { count ≤ IN_STEP }
+    requires lanes { HasRoom ROOM count }
     requires few { asked.count ≤ row_len }
     requires marks { asked.marks ≤ asked.count }
     requires room { length verdicts.old ≡ count * asked.count }
@@ -246,7 +254,7 @@ fn join_some<L: Ledger>(
     ensures bound { result ≤ count * (max_tries * max_key_len) }
     ensures steps { steps.new ≡ steps.old + result }
 {
-    let mut reached = [[0; MAX_TRIES]; IN_STEP];
+    let mut reached = [[0; MAX_TRIES]; ROOM];
     let taken = reach_some(table, keys, count, &mut reached, steps);
     for lane in 0..count {
         let piece = &mut verdicts[lane * asked.count..(lane + 1) * asked.count];
@@ -256,9 +264,9 @@ fn join_some<L: Ledger>(
     taken
 }
 
-/// Writes the verdicts and the marks of so many keys, 1 to 16, and says how many transitions their
-/// walks took.
-fn classify_some<L: Ledger>(
+/// Writes the verdicts and the marks of so many keys, and says how many transitions their walks
+/// took.
+fn classify_some<const ROOM: usize, L: Ledger>(
     table: &Table,
     keys: &[u8],
     count: usize,
@@ -269,7 +277,7 @@ fn classify_some<L: Ledger>(
 ) -> u64
     requires keys { length keys.now ≡ count * table.now.key_len }
     requires some { 0 < count }
-    requires at_most { count ≤ IN_STEP }
+    requires lanes { HasRoom ROOM count }
     requires few { asked.count ≤ row_len }
     requires marks { asked.marks ≤ asked.count }
     requires room { length verdicts.old ≡ count * asked.count }
@@ -282,12 +290,43 @@ fn classify_some<L: Ledger>(
 {
     // One trie is the common case, and its rows need no joining.
     if table.tries() == 1 {
-        let mut rows = [0; IN_STEP];
-        let taken = walk_some(table, 0, keys, count, &mut rows, steps);
+        let mut rows = [0; ROOM];
+        let taken = walk_keys(table, 0, keys, count, &mut rows, steps);
         write_rows(table.rows(), &rows, count, asked, verdicts, won);
         taken
     } else {
-        join_some(table, keys, count, asked, verdicts, won, steps)
+        join_some::<ROOM, L>(table, keys, count, asked, verdicts, won, steps)
+    }
+}
+
+/// Writes the verdicts and the marks of so many keys, 1 to 64, and says how many transitions their
+/// walks took.
+fn classify_part<L: Ledger>(
+    table: &Table,
+    keys: &[u8],
+    count: usize,
+    asked: Asked,
+    verdicts: &mut [u32],
+    won: &mut [bool],
+    steps: &mut Steps<L>,
+) -> u64
+    requires keys { length keys.now ≡ count * table.now.key_len }
+    requires some { 0 < count }
+    requires at_most { count ≤ WIDE }
+    requires few { asked.count ≤ row_len }
+    requires marks { asked.marks ≤ asked.count }
+    requires room { length verdicts.old ≡ count * asked.count }
+    requires marks_room { length won.old ≡ count * asked.marks }
+    ensures verdicts { verdicts.new ≡ verdicts_below table.now asked.count keys.now count }
+    ensures won { won.new ≡ winners_below table.now asked.marks keys.now count }
+    ensures taken { result ≡ transitions_below table.now keys.now count }
+    ensures bound { result ≤ count * (max_tries * max_key_len) }
+    ensures steps { steps.new ≡ steps.old + result }
+{
+    if count > IN_STEP {
+        classify_some::<WIDE, L>(table, keys, count, asked, verdicts, won, steps)
+    } else {
+        classify_some::<IN_STEP, L>(table, keys, count, asked, verdicts, won, steps)
     }
 }
 
@@ -353,13 +392,14 @@ fn classify_keys<L: Ledger>(
     }
     let (count, marks) = (asked.count, asked.marks);
     let n = keys.len() / key_len;
+    let far = is_far(table);
     let (mut k, mut taken) = (0, 0);
     while k < n {
-        let m = next_keys(k, n);
+        let m = next_keys(k, n, far);
         let part = &keys[k * key_len..(k + m) * key_len];
         let verdicts = &mut out[k * count..(k + m) * count];
         let marked = &mut won[k * marks..(k + m) * marks];
-        taken += classify_some(table, part, m, asked, verdicts, marked, steps);
+        taken += classify_part(table, part, m, asked, verdicts, marked, steps);
         k += m;
     }
     taken

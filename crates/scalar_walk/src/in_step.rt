@@ -12,6 +12,7 @@ ghost use Rattle.scalar_walk.specs.Rows.{CanGoOn, EndsAt, GoesOn, walks_below};
 use crate::side_by_side::walk_side_by_side;
 use crate::vectors::{Four, begin, groups_at, is_one_on_way, step, words_taken, write_ends};
 use crate::walk::walk_one;
+use crate::wide::WIDE;
 use flat_table::laws::walks_stay;
 use flat_table::{Steps, Table};
 use std::simd::u8x16;
@@ -33,7 +34,7 @@ fn follow(first: u16, second: u16, third: u16, fourth: u16) -> bool
 
 /// How many places from one on are read at once: four that stand one after the other, or one.
 #[inline]
-fn group_len(places: &[u16], n: usize) -> usize
+pub(crate) fn group_len(places: &[u16], n: usize) -> usize
     requires { n < length places.now }
     ensures count { IsGroupLen result }
     ensures some { 0 < result }
@@ -64,10 +65,15 @@ pub(crate) fn begin_of<const ALL: bool>(keys: &[u8], lane: usize, count: usize, 
 
 /// Where the bytes of the keys begin that four lanes walk, from one on.
 #[inline]
-fn begins<const ALL: bool>(keys: &[u8], first: usize, count: usize, len: usize) -> [usize; 4]
+pub(crate) fn begins<const ALL: bool>(
+    keys: &[u8],
+    first: usize,
+    count: usize,
+    len: usize,
+) -> [usize; 4]
     requires some { 0 < count }
-    requires lanes { first + 4 ≤ IN_STEP }
-    requires all { ALL ≡ true → count ≡ IN_STEP }
+    requires lanes { first + 4 ≤ WIDE }
+    requires all { ALL ≡ true → first + 4 ≤ count }
     requires keys { length keys.now ≡ count * len }
     ensures { (i : ℕ) → i < 4 → slice_index result i ≡ lane_key count (first + i) * len }
 {
@@ -133,7 +139,7 @@ fn step_in<const FOURS: usize, L: Ledger>(
 
 /// How many of four lanes, from one on, have a key of so many.
 #[inline]
-fn lanes_of(first: usize, count: usize) -> usize
+pub(crate) fn lanes_of(first: usize, count: usize) -> usize
     ensures value { result ≡ own_lanes count first }
     ensures within { result ≤ 4 }
 {
@@ -143,13 +149,9 @@ fn lanes_of(first: usize, count: usize) -> usize
 /// Writes the rows at which the walks of a four ended, if it is one of so many fours, and says how
 /// many words those of its lanes took that have a key of their own.
 #[inline]
-fn end_in<const FOURS: usize>(
-    four: usize,
-    walks: Four,
-    rows: &mut [u32; IN_STEP],
-    count: usize,
-) -> u64
+fn end_in<const FOURS: usize>(four: usize, walks: Four, rows: &mut [u32], count: usize) -> u64
     requires four { four < 4 }
+    requires room { IN_STEP ≤ length rows.old }
     requires lanes { count ≤ 4 * FOURS }
     requires few { four < FOURS → (i : ℕ) → i < 4 → slice_index walks.taken i ≤ max_key_len }
     ensures rows { four < FOURS → (i : ℕ) → i < 4 →
@@ -204,13 +206,14 @@ pub(crate) fn walk_in_step<const FOURS: usize, const ALL: bool, L: Ledger>(
     trie: usize,
     keys: &[u8],
     count: usize,
-    rows: &mut [u32; IN_STEP],
+    rows: &mut [u32],
     steps: &mut Steps<L>,
 ) -> u64
     requires trie { trie < length table.now.roots }
     requires keys { length keys.now ≡ count * table.now.key_len }
     requires lanes { HasLanes FOURS count }
     requires all { ALL ≡ true → count ≡ IN_STEP }
+    requires room { IN_STEP ≤ length rows.old }
     ensures rows { (k : ℕ) → k < count →
         EndsAt table.now trie (key_at table.now keys.now k) (slice_index rows.new k) }
     ensures taken { result ≡ walks_below table.now trie keys.now count }
@@ -259,11 +262,12 @@ fn walk_alone<L: Ledger>(
     table: &Table,
     trie: usize,
     keys: &[u8],
-    rows: &mut [u32; IN_STEP],
+    rows: &mut [u32],
     steps: &mut Steps<L>,
 ) -> u64
     requires trie { trie < length table.now.roots }
     requires keys { length keys.now ≡ 1 * table.now.key_len }
+    requires room { IN_STEP ≤ length rows.old }
     ensures rows { (k : ℕ) → k < 1 →
         EndsAt table.now trie (key_at table.now keys.now k) (slice_index rows.new k) }
     ensures taken { result ≡ walks_below table.now trie keys.now 1 }
@@ -283,13 +287,14 @@ pub(crate) fn walk_some<L: Ledger>(
     trie: usize,
     keys: &[u8],
     count: usize,
-    rows: &mut [u32; IN_STEP],
+    rows: &mut [u32],
     steps: &mut Steps<L>,
 ) -> u64
     requires trie { trie < length table.now.roots }
     requires keys { length keys.now ≡ count * table.now.key_len }
     requires some { 0 < count }
     requires few { count ≤ IN_STEP }
+    requires room { IN_STEP ≤ length rows.old }
     ensures rows { (k : ℕ) → k < count →
         EndsAt table.now trie (key_at table.now keys.now k) (slice_index rows.new k) }
     ensures taken { result ≡ walks_below table.now trie keys.now count }

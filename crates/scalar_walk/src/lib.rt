@@ -11,6 +11,7 @@
 //! - `walk`: one key through one trie.
 //! - `side_by_side`: two to four keys through one trie.
 //! - `in_step`: up to sixteen keys through one trie, in step.
+//! - `wide`: up to sixty-four of them, where the table is large.
 //! - `vectors`: one step of four of them, by vectors of four lanes.
 //! - `kinds`: the kinds of words, as `walk` tests them.
 //! - `words`: how walks take words of a table.
@@ -29,6 +30,7 @@ mod kinds;
 mod side_by_side;
 mod vectors;
 mod walk;
+mod wide;
 mod words;
 
 pub use classify::{classify_scalar, classify_scalar_marked, winners};

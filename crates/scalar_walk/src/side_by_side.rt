@@ -120,13 +120,14 @@ pub(crate) fn walk_side_by_side<const THREE: bool, const FOUR: bool, L: Ledger>(
     trie: usize,
     keys: &[u8],
     count: usize,
-    rows: &mut [u32; IN_STEP],
+    rows: &mut [u32],
     steps: &mut Steps<L>,
 ) -> u64
     requires trie { trie < length table.now.roots }
     requires keys { length keys.now ≡ count * table.now.key_len }
     requires three { FOUR ≡ true → THREE ≡ true }
     requires count { count ≡ (if FOUR then 4 else if THREE then 3 else 2) }
+    requires room { 4 ≤ length rows.old }
     ensures rows { (k : ℕ) → k < count →
         EndsAt table.now trie (key_at table.now keys.now k) (slice_index rows.new k) }
     ensures taken { result ≡ walks_below table.now trie keys.now count }

@@ -19,7 +19,7 @@ ghost use Rattle.table_sizes.specs.Groups.{max_key_len};
 ghost use Rattle.flat_table.specs.Word.{full, indexes, quad, is_node, next_place};
 ghost use Rattle.scalar_walk.specs.Lanes.{IsEnded, IsGroupLen, counted, counts, ended, word_in};
 ghost use Rattle.scalar_walk.specs.Lanes.{sum_below};
-ghost use Rattle.scalar_walk.specs.Rows.{CanGoOn, GoesOn};
+ghost use Rattle.scalar_walk.specs.Rows.{CanGoOn, CanTake, GoesOn, ReadsAt, Takes};
 
 use crate::kinds::{FULL, QUAD};
 use crate::words::take_word;
@@ -269,42 +269,81 @@ pub(crate) fn groups_at(keys: &[u8], begins: &[usize; 4], from: usize, count: us
     }
 }
 
-/// Four walks, given by their vectors, after one more byte each: a walk that has ended stays. So
-/// many of the walks are counted.
+/// Where the words stand that four walks take next, by their bytes, each of which stands there four
+/// times. A walk that has ended reads word 0, which is then left out.
 #[inline]
-fn go_on<L: Ledger>(
+fn ahead(lows: u32x4, highs: u32x4, bytes: u8x16) -> [u32; 4]
+    requires { (i k : ℕ) → i < 4 → k < 4 →
+        slice_index bytes (4 * i + k) ≡ slice_index bytes (4 * i) }
+    ensures { (i : ℕ) → i < 4 →
+        ReadsAt (word_in lows highs i) (slice_index bytes (4 * i)) (slice_index result i) }
+{
+    let on_way = lows.simd_lt(u32x4::splat(ENDED));
+    on_way
+        .select(next_places(lows, highs, bytes), u32x4::splat(0))
+        .to_array()
+}
+
+/// Where four walks read their next words, by the bytes at a place of their groups.
+#[inline]
+pub(crate) fn reads_at(walks: Four, groups: u8x16, place: usize) -> [u32; 4]
+    requires { place < 4 }
+    ensures { (i : ℕ) → i < 4 → ReadsAt (word_in walks.lows walks.highs i)
+        (slice_index groups (4 * i + place)) (slice_index result i) }
+{
+    ahead(walks.lows, walks.highs, bytes_in(groups, place))
+}
+
+/// Four walks, given by their vectors, once each has taken the word at its place: one that has
+/// ended stays. So many of the walks are counted.
+#[inline]
+fn arrive<L: Ledger>(
     words: &[u64],
     lows: u32x4,
     highs: u32x4,
     taken: u32x4,
-    bytes: u8x16,
+    at: &[u32; 4],
     own: usize,
     steps: &mut Steps<L>,
 ) -> Four
-    requires bytes { (i k : ℕ) → i < 4 → k < 4 →
-        slice_index bytes (4 * i + k) ≡ slice_index bytes (4 * i) }
-    requires ready { (i : ℕ) → i < 4 → CanGoOn words.now (word_in lows highs i)
-        (slice_index bytes (4 * i)) (slice_index taken i) }
-    ensures walks { (i : ℕ) → i < 4 → GoesOn words.now (word_in lows highs i)
-        (slice_index bytes (4 * i)) (word_in result.lows result.highs i) (slice_index taken i)
+    requires { (i : ℕ) → i < 4 → CanTake words.now (word_in lows highs i)
+        (slice_index at.now i) (slice_index taken i) }
+    ensures walks { (i : ℕ) → i < 4 → Takes words.now (word_in lows highs i)
+        (slice_index at.now i) (word_in result.lows result.highs i) (slice_index taken i)
         (slice_index result.taken i) }
     ensures steps { steps.new + counted taken own ≡ steps.old + counted result.taken own }
 {
-    let none = u32x4::splat(0);
     let on_way = lows.simd_lt(u32x4::splat(ENDED));
-    let places = on_way
-        .select(next_places(lows, highs, bytes), none)
-        .to_array();
-    // A walk that has ended reads word 0, which is then left out.
-    let (next_lows, next_highs) = fetch(words, &places, &lows.to_array(), own, steps);
+    let (next_lows, next_highs) = fetch(words, at, &lows.to_array(), own, steps);
     Four {
         lows: on_way.select(next_lows, lows),
         highs: on_way.select(next_highs, highs),
-        taken: taken + on_way.select(u32x4::splat(1), none),
+        taken: taken + on_way.select(u32x4::splat(1), u32x4::splat(0)),
     }
 }
 
-/// Four walks after the bytes at a place of their groups. So many of them are counted.
+/// Four walks once each has taken the word at its place: one that has ended stays. So many of them
+/// are counted.
+#[inline]
+pub(crate) fn take<L: Ledger>(
+    words: &[u64],
+    walks: Four,
+    at: &[u32; 4],
+    own: usize,
+    steps: &mut Steps<L>,
+) -> Four
+    requires { (i : ℕ) → i < 4 → CanTake words.now (word_in walks.lows walks.highs i)
+        (slice_index at.now i) (slice_index walks.taken i) }
+    ensures walks { (i : ℕ) → i < 4 → Takes words.now (word_in walks.lows walks.highs i)
+        (slice_index at.now i) (word_in result.lows result.highs i) (slice_index walks.taken i)
+        (slice_index result.taken i) }
+    ensures steps { steps.new + counted walks.taken own ≡ steps.old + counted result.taken own }
+{
+    arrive(words, walks.lows, walks.highs, walks.taken, at, own, steps)
+}
+
+/// Four walks after the bytes at a place of their groups: one that has ended stays. So many of them
+/// are counted.
 #[inline]
 pub(crate) fn step<L: Ledger>(
     words: &[u64],
@@ -322,16 +361,8 @@ pub(crate) fn step<L: Ledger>(
         (slice_index walks.taken i) (slice_index result.taken i) }
     ensures steps { steps.new + counted walks.taken own ≡ steps.old + counted result.taken own }
 {
-    let bytes = bytes_in(groups, place);
-    go_on(
-        words,
-        walks.lows,
-        walks.highs,
-        walks.taken,
-        bytes,
-        own,
-        steps,
-    )
+    let at = reads_at(walks, groups, place);
+    take(words, walks, &at, own, steps)
 }
 
 /// Whether one of four walks is on its way.
@@ -344,8 +375,9 @@ pub(crate) fn is_one_on_way(walks: Four) -> bool
 
 /// Writes the rows that four walks name, from a place on.
 #[inline]
-pub(crate) fn write_ends(walks: Four, rows: &mut [u32; 16], at: usize)
-    requires room { at + 4 ≤ 16 }
+pub(crate) fn write_ends(walks: Four, rows: &mut [u32], at: usize)
+    requires room { at + 4 ≤ length rows.old }
+    ensures len { length rows.new ≡ length rows.old }
     ensures rows { (i : ℕ) → i < 4 →
         slice_index rows.new (at + i) ≡ slice_index walks.lows i % indexes }
     ensures others { (k : ℕ) → k < at → slice_index rows.new k ≡ slice_index rows.old k }

@@ -9,6 +9,7 @@
 //! | `adding` | rules that are added to a context in two calls |
 //! | `asking` | a context's answers to a batch, for the tests of contexts |
 //! | `contexts` | contexts from their first rule to their reset |
+//! | `far` | calls of many keys over a table of more than a mebibyte |
 //! | `few` | calls of 1 to 17 keys: verdicts, marks and words by either walk |
 //! | `lanes` | batches walked by 4, 8 and 16 lanes: words, turns and verdicts |
 //! | `layouts` | contexts whose layouts have two and nine fields, and keys of 5 and 25 bytes |
@@ -25,6 +26,8 @@ mod adding;
 mod asking;
 #[cfg(test)]
 mod contexts;
+#[cfg(test)]
+mod far;
 #[cfg(test)]
 mod few;
 #[cfg(test)]

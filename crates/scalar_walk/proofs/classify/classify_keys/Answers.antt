@@ -16,7 +16,7 @@ loop-k-init g c = (
 
 pub loop-k-preserved : goal.loop-k-preserved
 loop-k-preserved g c =
-    let w = c.classify_some-taken.ensures in (
+    let w = c.classify_part-taken.ensures in (
       keys_more c.loop-k.invariant.0 c.key_len-key_len.ensures.value
           record {
             verdicts_are = w.verdicts ∙ pieces_are _ c.next_keys-m.result;
@@ -162,22 +162,22 @@ slice_bounds-marked-end g c =
     c.next_keys-m.ensures.within in
     omega (arith, fits)
 
-pub classify_some-taken-requires-clause-keys : goal.classify_some-taken-requires-clause-keys
-classify_some-taken-requires-clause-keys g c =
+pub classify_part-taken-requires-clause-keys : goal.classify_part-taken-requires-clause-keys
+classify_part-taken-requires-clause-keys g c =
     let fits = keys_fit (length c.args.keys.now) c.key_len-key_len.result c.loop-k.k c.next_keys-m.result
     c.next_keys-m.ensures.within in
     part_len c.args.keys.now c.loop-k.k c.next_keys-m.result c.key_len-key_len.result fits
     ∙ ap (λ (len : ℕ). c.next_keys-m.result * len) c.key_len-key_len.ensures.value
 
-pub classify_some-taken-requires-clause-room : goal.classify_some-taken-requires-clause-room
-classify_some-taken-requires-clause-room g c =
+pub classify_part-taken-requires-clause-room : goal.classify_part-taken-requires-clause-room
+classify_part-taken-requires-clause-room g c =
     let fits = room_fits (length c.args.keys.now) c.key_len-key_len.result c.args.asked.count (length c.loop-k.out)
     c.loop-k.k c.next_keys-m.result c.key_len-key_len.ensures.value c.loop-k.auto.out c.requires.fits.room_fits
     c.next_keys-m.ensures.within in
     part_len c.loop-k.out c.loop-k.k c.next_keys-m.result c.args.asked.count fits
 
-pub classify_some-taken-requires-clause-marks_room : goal.classify_some-taken-requires-clause-marks_room
-classify_some-taken-requires-clause-marks_room g c =
+pub classify_part-taken-requires-clause-marks_room : goal.classify_part-taken-requires-clause-marks_room
+classify_part-taken-requires-clause-marks_room g c =
     let fits = room_fits (length c.args.keys.now) c.key_len-key_len.result c.args.asked.marks (length c.loop-k.won)
     c.loop-k.k c.next_keys-m.result c.key_len-key_len.ensures.value c.loop-k.auto.won c.requires.marks_room
     c.next_keys-m.ensures.within in

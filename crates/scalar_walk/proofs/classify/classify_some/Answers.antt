@@ -12,7 +12,7 @@ pub write_rows-requires-clause-there : goal.write_rows-requires-clause-there
 write_rows-requires-clause-there g c k h =
     omega (
       arith,
-      (c.walk_some-taken.ensures.rows k h).there,
+      (c.walk_keys-taken.ensures.rows k h).there,
       ap (λ (rows : List (List ℕ)). length rows) c.rows.ensures,
     )
 
@@ -21,26 +21,26 @@ returns-then-tries-eq1-clause-verdicts g c =
     let table = c.args.table.now in
     let one : length table.roots ≡ 1 = omega arith in
     let key = λ (k : ℕ). key_at table c.args.keys.now k in
-    let row = λ (k : ℕ). slice_index c.walk_some-taken.new.rows k in
+    let row = λ (k : ℕ). slice_index c.walk_keys-taken.new.rows k in
     let count : ℕ = c.args.asked.count in
     let n : ℕ = c.args.count in
     c.write_rows.ensures.verdicts
     ∙ ap (λ (rows : List (List ℕ)). pieces_below (λ k. row_verdicts rows count (row k)) n) c.rows.ensures
     ∙ pieces_agree (λ k. row_verdicts table.rows count (row k)) (λ k. key_verdicts table count (key k)) n
-    (λ k h. one_verdicts table (key k) count one (c.walk_some-taken.ensures.rows k h).is)
+    (λ k h. one_verdicts table (key k) count one (c.walk_keys-taken.ensures.rows k h).is)
 
 pub returns-then-tries-eq1-clause-won : goal.returns-then-tries-eq1-clause-won
 returns-then-tries-eq1-clause-won g c =
     let table = c.args.table.now in
     let one : length table.roots ≡ 1 = omega arith in
     let key = λ (k : ℕ). key_at table c.args.keys.now k in
-    let row = λ (k : ℕ). slice_index c.walk_some-taken.new.rows k in
+    let row = λ (k : ℕ). slice_index c.walk_keys-taken.new.rows k in
     let marks : ℕ = c.args.asked.marks in
     let n : ℕ = c.args.count in
     c.write_rows.ensures.won
     ∙ ap (λ (rows : List (List ℕ)). pieces_below (λ k. row_winners rows marks (row k)) n) c.rows.ensures
     ∙ pieces_agree (λ k. row_winners table.rows marks (row k)) (λ k. key_winners table marks (key k)) n
-    (λ k h. one_winners table (key k) marks one (c.walk_some-taken.ensures.rows k h).is)
+    (λ k h. one_winners table (key k) marks one (c.walk_keys-taken.ensures.rows k h).is)
 
 pub returns-then-tries-eq1-clause-taken : goal.returns-then-tries-eq1-clause-taken
 returns-then-tries-eq1-clause-taken g c =
@@ -49,7 +49,7 @@ returns-then-tries-eq1-clause-taken g c =
     let key = λ (k : ℕ). key_at table c.args.keys.now k in
     omega (
       arith,
-      c.walk_some-taken.ensures.taken,
+      c.walk_keys-taken.ensures.taken,
       sum_agree (λ k. key_transitions table (key k)) (λ k. walk_transitions table 0 (key k)) c.args.count
           (λ k h. one_transitions table (key k) one),
     )

@@ -1,4 +1,4 @@
-use Rattle.std.proofs.Common.{ℕ, List, arith, ap, ◌∙◌, [], length}
+use Rattle.std.proofs.Common.{◌<◌, ℕ, List, arith, ap, ◌∙◌, [], length}
 use Rattle.std.specs.Prelude.{replicate}
 use Rattle.std.proofs.lemmas.List.{get_or-replicate}
 use Rattle.flat_table.specs.Batch.{key_at, key_verdicts}
@@ -6,11 +6,14 @@ use Rattle.scalar_walk.specs.Rows.{key_winners}
 use Rattle.scalar_walk.proofs.Batches.{verdicts_len, winners_len}
 use Rattle.scalar_walk.proofs.Below.{pieces_none, one_piece, all_pieces}
 use Rattle.scalar_walk.proofs.Reached.{rows_there, verdicts_are, winners_are}
+use Rattle.scalar_walk.proofs.WideSteps.{room_fits}
 use Rattle.scalar_walk.proofs.classify.join_some.Goals as goal
 
-pub reach_some-taken-requires-clause-len : goal.reach_some-taken-requires-clause-len
-reach_some-taken-requires-clause-len g c k h =
-    ap (λ (xs : List ℕ). length xs) (get_or-replicate 16 k (replicate 8 0) [] h)
+pub reach_some-taken-requires : goal.reach_some-taken-requires
+reach_some-taken-requires g c =
+    let wide = λ (k : ℕ) (h : k < g.row.ROOM).
+    ap (λ (xs : List ℕ). length xs) (get_or-replicate g.row.ROOM k (replicate 8 0) [] h) in
+    ((room_fits c.requires.lanes).0, (c.requires.keys, (c.requires.some, (c.requires.lanes, wide))))
 
 pub loop-lane-init : goal.loop-lane-init
 loop-lane-init g c =

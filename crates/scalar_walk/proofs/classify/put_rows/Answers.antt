@@ -5,7 +5,7 @@ use borrow.Author.Count.{below_more}
 use Rattle.scalar_walk.proofs.classify.put_rows.Goals as goal
 
 pub loop-lane-preserved : goal.loop-lane-preserved
-loop-lane-preserved c =
+loop-lane-preserved g c =
     let l = c.loop-lane in
     let trie : ℕ = c.args.trie in
     let word : ℕ = get_or c.args.rows.now l.lane 0 in
@@ -21,4 +21,4 @@ loop-lane-preserved c =
     )
 
 pub returns : goal.returns
-returns c k h = c.loop-lane.invariant.1 k (omega (arith, h, c.loop-lane-test.false))
+returns g c k h = c.loop-lane.invariant.1 k (omega (arith, h, c.loop-lane-test.false))

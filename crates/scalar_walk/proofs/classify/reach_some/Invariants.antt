@@ -14,4 +14,4 @@ invariant-loop-trie g l =
     × (l.taken ≡ sum_below (λ (k : ℕ). first_tries_transitions l.table (key_at l.table l.keys k) l.trie) l.count)
     × (l.taken ≤ l.trie * (l.count * max_key_len))
     × (l.steps ≡ l.initial.steps + l.taken)
-    × ((k : ℕ) → k < 16 → length (get_or l.reached k []) ≡ max_tries)
+    × ((k : ℕ) → k < g.row.ROOM → length (get_or l.reached k []) ≡ max_tries)
