@@ -34,5 +34,5 @@ mod wide;
 mod words;
 
 pub use classify::{classify_scalar, classify_scalar_marked, winners};
-pub use vectors::four_places;
+pub use vectors::{four_places, halves_of, places_after};
 pub use walk::{Walked, walk_one};

@@ -146,8 +146,10 @@ fn fetch<L: Ledger>(
 }
 
 /// The low and the high halves of four words.
+///
+/// It refuses nothing and takes no memory.
 #[inline]
-fn halves(words: &[u64; 4]) -> (u32x4, u32x4)
+pub fn halves_of(words: &[u64; 4]) -> (u32x4, u32x4)
     ensures lows { length result.0 ≡ 4 }
     ensures highs { length result.1 ≡ 4 }
     ensures words { (i : ℕ) → i < 4 →
@@ -175,6 +177,20 @@ fn spread(bytes: &[u8; 4]) -> u8x16
     bytes_in(bytes_of(numbers), 0)
 }
 
+/// The places of the words that four walks take by their bytes from the halves of their words. A
+/// walk whose word leads to no node has no such place, and gets any number.
+///
+/// It refuses nothing and takes no memory.
+#[inline]
+pub fn places_after(lows: u32x4, highs: u32x4, bytes: u32x4) -> u32x4
+    ensures len { length result ≡ 4 }
+    ensures places { (i : ℕ) → i < 4 → is_node (word_in lows highs i) ≡ true →
+        slice_index bytes i < 256 →
+        slice_index result i ≡ next_place (word_in lows highs i) (slice_index bytes i) }
+{
+    next_places(lows, highs, bytes_in(bytes_of(bytes), 0))
+}
+
 /// The places of the words that four walks take by their bytes from their words, worked out at
 /// once. A walk whose word leads to no node has no such place, and gets any number.
 ///
@@ -185,7 +201,7 @@ pub fn four_places(words: &[u64; 4], bytes: &[u8; 4]) -> [u32; 4]
         slice_index result i
         ≡ next_place (slice_index words.now i) (slice_index bytes.now i) }
 {
-    let (lows, highs) = halves(words);
+    let (lows, highs) = halves_of(words);
     next_places(lows, highs, spread(bytes)).to_array()
 }
 

@@ -9,7 +9,7 @@ next_places-requires c i k few part =
 
 pub returns : goal.returns
 returns c i within node =
-    let word = c.halves.ensures.words i within in
+    let word = c.halves_of.ensures.words i within in
     let byte = first_of_group c.spread.result i (c.spread.ensures i 0 within (lit< tt)) in
     c.next_places.ensures.places i within (ap (λ (w : ℕ). is_node w) word ∙ node)
     ∙ (λ j. next_place (word j) (byte j))
