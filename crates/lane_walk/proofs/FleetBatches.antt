@@ -28,7 +28,7 @@ use Rattle.lane_walk.specs.Turn.{IsAfterRun, is_busy}
 use Rattle.lane_walk.proofs.Batches.{Flies, Turned, Turns, flies, flown_here, one_turn, turned_more, turned_none}
 use Rattle.lane_walk.proofs.Batches.{width_here}
 use Rattle.lane_walk.proofs.KeptLanes.{AreKept, all_room, kept_first, kept_on, slot_case}
-use Rattle.lane_walk.proofs.FleetTurns.{FleetGoes, Shows, ShowsSlot, course_is, given_more, in_walk, jobs_between}
+use Rattle.lane_walk.proofs.FleetTurns.{FleetGoes, Shows, ShowsSlot, course_is, given_more, in_walk}
 use Rattle.lane_walk.proofs.FleetTurns.{keeps_on, rooms, shows_begun, shows_on}
 use Rattle.lane_walk.proofs.WholeTurn.{WentTo, after_run, after_turn, room, went}
 
@@ -167,7 +167,7 @@ module _ {W n : ℕ} {table : TableView} {keys : List ℕ} {fleet new : Fleet W}
           | inl more ↦ omega (arith, jobs, t.kept.began, more)
           | inr all ↦ omega (arith, jobs, all)
         ];
-        small = λ lane below. omega (arith, a.settled.small lane below, jobs_between goes a, jobs);
+        small = λ lane below. omega (arith, a.settled.small lane below, jobs);
         kept = subst (λ (course : Course). AreKept table keys next.machine (used_of W course) new.words new.keys after)
             (sym same) kept_next;
       }
@@ -189,7 +189,7 @@ module _ {W n : ℕ} {table : TableView} {keys : List ℕ} {fleet new : Fleet W}
       width_is,
     );
     len = a.settled.len;
-    others = subst (λ (m : ℕ). drop m after ≡ drop m rows) (jobs_between goes a ∙ t.kept.course.jobs) a.settled.past;
+    others = subst (λ (m : ℕ). drop m after ≡ drop m rows) t.kept.course.jobs a.settled.past;
     stands = record {
       jobs = next_flown.jobs;
       fits = record {

@@ -98,7 +98,6 @@ settled_none few small = record {
   some = λ fits. omega arith;
   all = λ past. omega (arith, few, past);
   course = refl;
-  stays = λ lane apart. (refl, refl);
   walks = λ lane apart. refl;
   begins = λ lane below bit less. absurd (omega (arith, below));
   rests = λ lane below bit past. absurd (omega (arith, below));
@@ -131,7 +130,6 @@ module _ {W : ℕ} {mask : ℕ} {words : List ℕ} {from now : Fleet W} {rows ne
         some = λ fits. omega (arith, s.some (omega (arith, fits, same)), same);
         all = λ over. s.all (omega (arith, over, same));
         course = s.course;
-        stays = λ lane either. s.stays lane (apart lane either);
         walks = λ lane either. s.walks lane (apart lane either);
         begins = λ lane below bit less. s.begins lane (before lane below bit) bit less;
         rests = λ lane below bit over. s.rests lane (before lane below bit) bit over;
@@ -147,6 +145,13 @@ module _ {W : ℕ} {mask : ℕ} {words : List ℕ} {from now : Fleet W} {rows ne
         len = s.len;
         past = s.past;
       }
+
+-- where no lane was empty
+pub settled_clear : {W mask : ℕ} {words : List ℕ} {from : Fleet W} {rows : List (List ℕ)} → mask ≡ 0 →
+    from.given ≤ from.course.jobs → ((lane : ℕ) → lane < W → slice_index from.keys lane < from.course.jobs) →
+    SettledTo mask W words from from rows rows
+settled_clear {W = W} clear few small = settled_pass W (omega arith)
+    (λ lane past less. ap (λ (n : ℕ). bit_at n lane) clear ∙ bit_at-zero lane) (settled_none few small)
 
 module _ {W : ℕ} {mask n : ℕ} {words : List ℕ} {from now : Fleet W} {rows new : List (List ℕ)}
     (s : SettledTo mask n words from now rows new) (wide : IsWide now) (below : n < W) (is_set : bit_at mask n ≡ 1)
@@ -181,13 +186,6 @@ module _ {W : ℕ} {mask n : ℕ} {words : List ℕ} {from now : Fleet W} {rows 
           some = λ fits. omega (arith, given, more);
           all = λ past. omega (arith, given, more, past, few);
           course = s.course;
-          stays = λ lane either.
-              let it = s.stays lane (not_yet lane either) in (
-                get_or-set_other now.words n lane now.course.root 0 (not_here lane either) ∙ it.0,
-                get_or-set_other now.ats n lane ((now.given * now.course.len + now.course.first) % 2 ^ 32) 0
-                    (not_here lane either)
-                    ∙ it.1,
-              );
           walks = λ lane either. get_or-set_other now.keys n lane now.given 0 (not_here lane either)
               ∙ s.walks lane (not_yet lane either);
           begins = λ lane within bit less. elim (cases_eq lane n) [
@@ -257,9 +255,6 @@ module _ {W : ℕ} {mask n : ℕ} {words : List ℕ} {from now : Fleet W} {rows 
       some = λ fits. absurd (omega (arith, fits, past, more));
       all = λ over. s.all past;
       course = s.course;
-      stays = λ lane either.
-          let it = s.stays lane (not_yet lane either) in
-          (get_or-set_other now.words n lane (slice_index words n) 0 (not_here lane either) ∙ it.0, it.1);
       walks = λ lane either. s.walks lane (not_yet lane either);
       begins = λ lane within bit less. elim (cases_eq lane n) [
         | inl same ↦ absurd (omega (arith, past, less, ap (set_below mask) same))

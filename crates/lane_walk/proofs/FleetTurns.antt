@@ -23,7 +23,7 @@ use Rattle.flow_core.specs.Invariant.{IsInWalk}
 use Rattle.flow_core.proofs.Offered.{trie_of_flight}
 use Rattle.lane_walk.specs.declared.fleet.Course.{Course}
 use Rattle.lane_walk.specs.declared.fleet.Fleet.{Fleet}
-use Rattle.lane_walk.specs.Fleet.{IsCourse, IsBegun, TurnsAll, over_bit, set_below, noted_of}
+use Rattle.lane_walk.specs.Fleet.{IsCourse, IsBegun, StepsOn, TurnsAll, over_bit, set_below}
 use Rattle.lane_walk.proofs.Halves.{match_low, on_low}
 use Rattle.lane_walk.proofs.KeptLanes.{KeepsOn, slot_case}
 use Rattle.lane_walk.proofs.Landing.{node_of}
@@ -169,22 +169,19 @@ module _ {W : ℕ} {table : TableView} {keys : List ℕ} {before now : Machine} 
         )
       ]
 
-  -- the numbers of the fleet between
-  given_is : t.stepped.given ≡ before.given
-  given_is = t.same.1 ∙ sym g.shows.given
+  -- the numbers of the fleet
+  given_is : old.given ≡ before.given
+  given_is = sym g.shows.given
 
-  jobs_is : t.stepped.course.jobs ≡ before.jobs
-  jobs_is = ap (λ (course : Course). course.jobs) t.same.2 ∙ sym g.shows.jobs
+  jobs_is : old.course.jobs ≡ before.jobs
+  jobs_is = sym g.shows.jobs
 
   pub course_is : new.course ≡ old.course
-  course_is = t.settled.course ∙ t.same.2
-
-  keys_are : (lane : ℕ) → slice_index t.stepped.keys lane ≡ slice_index old.keys lane
-  keys_are lane = ap (λ (keys_of : List ℕ). slice_index keys_of lane) t.same.0
+  course_is = t.settled.course
 
   -- how many jobs were given out before the lane took one
   number_is : (lane : ℕ) → lane < W →
-      t.stepped.given + set_below t.empty lane ≡ before.given + room table keys before lane
+      old.given + set_below t.empty lane ≡ before.given + room table keys before lane
   number_is lane below = λ i. given_is i + rooms lane (omega (arith, below)) i
 
   -- ---- a busy lane
@@ -208,24 +205,20 @@ module _ {W : ℕ} {table : TableView} {keys : List ℕ} {before now : Machine} 
     read : slice_index keys (slice_index old.ats lane) ≡ byte_of table keys flight
     read = byte_at walk.on_way g.sound g.course.straight first_trie g.course.len g.course.first s.place
 
-    -- the word that it takes is the next of its flight
-    next_is : slice_index t.stepped.words lane ≡ word_of table keys flight
-    next_is =
+    -- it takes its word
+    step : StepsOn table.words keys old new lane
+    step = t.steps lane below (bit_busy lane below is)
+
+    -- which is the next of its flight
+    new_word : slice_index new.words lane ≡ word_of table keys flight
+    new_word =
         let node : is_node (slice_index old.words lane) ≡ true = ap (λ (word : ℕ). is_node word) s.word_is
         ∙ node_of table flight.trie flight.depth flight.word walk.on_way.word in
-        (t.steps lane below).word_is node there (place_within walk.on_way g.stay g.sound g.bytes s.word_is read)
+        step.word_is node there (place_within walk.on_way g.stay g.sound g.bytes s.word_is read)
         ∙ word_there walk.on_way g.stay g.sound g.bytes s.word_is read
 
-    -- it keeps it, for it is not settled
-    stays : (slice_index new.words lane ≡ slice_index t.stepped.words lane)
-        × (slice_index new.ats lane ≡ slice_index t.stepped.ats lane)
-    stays = t.settled.stays lane (inl (bit_busy lane below is))
-
-    new_word : slice_index new.words lane ≡ word_of table keys flight
-    new_word = stays.0 ∙ next_is
-
     pub new_key : slice_index new.keys lane ≡ slice_index old.keys lane
-    new_key = t.settled.walks lane (inl (bit_busy lane below is)) ∙ keys_are lane
+    new_key = t.settled.walks lane (inl (bit_busy lane below is))
 
     -- what it shows after the turn
     shows_busy : get_or now.slots lane None ≡ held_after flight (word_of table keys flight) →
@@ -240,7 +233,7 @@ module _ {W : ℕ} {table : TableView} {keys : List ℕ} {before now : Machine} 
           let it : ShowsFlight old.course (moved_to (word_of table keys flight) flight) (slice_index new.words lane)
           (slice_index new.ats lane) (slice_index new.keys lane) = record {
             word_is = new_word;
-            place = omega (arith, stays.1, (t.steps lane below).place, there, g.small, s.place);
+            place = omega (arith, step.place, there, g.small, s.place);
             key_is = new_key ∙ s.key_is;
           } in
           rw on it
@@ -273,7 +266,7 @@ module _ {W : ℕ} {table : TableView} {keys : List ℕ} {before now : Machine} 
     idle_is past =
         let it = t.settled.rests lane below (bit_empty lane below is)
         (omega (arith, number_is lane below, past, jobs_is)) in
-        (it.1 ∙ keys_are lane, it.0)
+        (it.1, it.0)
 
     shows_empty : get_or now.slots lane None ≡ after_turn table keys before (room table keys before lane) None →
         ShowsSlot old.course (after_turn table keys before (room table keys before lane) None)
@@ -340,15 +333,11 @@ module _ {W : ℕ} {table : TableView} {keys : List ℕ} {before now : Machine} 
         each = shows_lane;
       }
 
-  -- the jobs are as many between
-  pub jobs_between : t.stepped.course.jobs ≡ old.course.jobs
-  jobs_between = ap (λ (course : Course). course.jobs) t.same.2
-
   -- no fewer jobs are given out
   pub given_more : (old.given ≤ new.given) ⊎ (old.course.jobs ≤ new.given)
-  given_more = elim (cases_lt t.stepped.course.jobs (t.stepped.given + set_below t.empty W)) [
-    | inl less ↦ inr (omega (arith, t.settled.all (omega (arith, less)), jobs_between))
-    | inr past ↦ inl (omega (arith, t.settled.some past, t.same.1))
+  given_more = elim (cases_lt old.course.jobs (old.given + set_below t.empty W)) [
+    | inl less ↦ inr (omega (arith, t.settled.all (omega (arith, less))))
+    | inr past ↦ inl (omega (arith, t.settled.some past))
   ]
 
   -- and its lanes keep what they are to keep
@@ -369,8 +358,8 @@ module _ {W : ℕ} {table : TableView} {keys : List ℕ} {before now : Machine} 
           it.0,
           omega (arith, it.1, every),
           empty_of it.0 it.1 it.2,
-          sym (keys_are it.0) ∙ it.3 ∙ keys_are lane,
-          ap (λ (key : ℕ). noted_of after key) (sym (keys_are lane)) ∙ it.4,
+          it.3,
+          it.4,
         );
     idle = λ lane within is past. idle_is (omega (arith, within, few)) is past;
     others = λ key. elim (t.settled.others key) [
@@ -380,7 +369,7 @@ module _ {W : ℕ} {table : TableView} {keys : List ℕ} {before now : Machine} 
             | inl whole ↦ whole
             | inr none ↦ absurd (omega (arith, none, some, given_is, jobs_is))
           ] in
-          inr (lane, omega (arith, below, every), empty_of lane below bit, sym (keys_are lane) ∙ key_is, noted)
+          inr (lane, omega (arith, below, every), empty_of lane below bit, key_is, noted)
           )
     ];
   }

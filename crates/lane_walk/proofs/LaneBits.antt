@@ -1,7 +1,10 @@
 -- The bits of a mask of lanes: how many are set below one, and which is the least.
-use Rattle.std.proofs.Common.{◌≡◌, ℕ, zero, suc, ◌+◌, ◌^◌, ◌<◌, ◌≤◌, ap, ◌∙◌, arith, w64}
+use Rattle.std.proofs.Common.{◌≡◌, ℕ, zero, suc, ◌+◌, ◌/◌, ◌%◌, ◌^◌, refl, ◌<◌, ◌≤◌, ap, ◌∙◌, arith, w64}
+use lib.Count.{ones_step}
 use Rattle.std.specs.Int.{bit_at, trailing_zeros}
-use Rattle.std.proofs.lemmas.Nat.Bits.{bit_at-lt, bit_at-trailing_zeros}
+use Rattle.std.specs.Int.RustNames.{count_ones}
+use Rattle.std.proofs.lemmas.Nat.{ones_le_self}
+use Rattle.std.proofs.lemmas.Nat.Bits.{bit_at-lt, bit_at-suc, bit_at-trailing_zeros, bit_at-zero, bit_at_lowest}
 use Rattle.lane_walk.specs.Fleet.{set_below}
 
 -- where no bit is set from one on and before another, as many are set below both
@@ -28,6 +31,25 @@ pub below_few : (mask n : ℕ) → set_below mask n ≤ n
 unfolding set_below
 below_few mask zero = omega arith
 below_few mask (suc n) = omega (arith, below_few mask n, bit_at-lt mask n)
+
+-- of no bits none is set
+pub below_none : (n : ℕ) → set_below 0 n ≡ 0
+unfolding set_below
+below_none zero = refl
+below_none (suc n) = omega (arith, below_none n, bit_at-zero n)
+
+-- the lowest bit, and those of the half
+below_half : (mask n : ℕ) → set_below mask (suc n) ≡ mask % 2 + set_below (mask / 2) n
+unfolding set_below
+below_half mask zero = omega (arith, bit_at_lowest mask)
+below_half mask (suc n) = omega (arith, below_half mask n, bit_at-suc mask n)
+
+-- all bits that are set are below the width of the number
+pub ones_below : (n mask : ℕ) → mask < 2 ^ n → count_ones mask ≡ set_below mask n
+unfolding set_below
+ones_below zero mask few = omega (arith, few, ones_le_self mask)
+ones_below (suc n) mask few =
+    omega (arith, ones_step mask, ones_below n (mask / 2) (omega (arith, few)), below_half mask n)
 
 -- what is known of the least bit that is set
 pub record IsLeast (rest lane : ℕ) : Type 0 where

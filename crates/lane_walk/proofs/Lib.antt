@@ -5,6 +5,7 @@ pub mod FleetNotes
 pub mod FleetSettles
 pub mod FleetSteps
 pub mod FleetTurns
+pub mod FleetWalks
 pub mod Fours
 pub mod Halves
 pub mod Held

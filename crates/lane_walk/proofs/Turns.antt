@@ -89,3 +89,11 @@ pub all_groups : {width lanes n : ℕ} → IsLanes width → lanes ≡ width →
 all_groups {width = width} {lanes = lanes} {n = n} is same most least =
     let whole : n ≡ lanes / 4 = omega (arith, most, least) in
     ap (λ (k : ℕ). k * 4) (whole ∙ ap (λ (k : ℕ). k / 4) same) ∙ in_fours is
+
+-- and they are whole fours
+pub lanes_whole : {width : ℕ} → IsLanes width → width / 4 * 4 ≡ width
+lanes_whole {width = width} lanes = elim lanes [
+  | inl four ↦ omega (arith, four)
+  | inr (inl eight) ↦ omega (arith, eight)
+  | inr (inr sixteen) ↦ omega (arith, sixteen)
+]

@@ -3,16 +3,19 @@
 use Rattle.std.specs.Prelude.{◌≡◌, ℕ, zero, suc, ◌+◌, ◌*◌, ◌%◌, ◌^◌, ◌<◌, ◌≤◌, ◌⊎◌, List, []}
 use Rattle.std.specs.Prelude.{length, drop, set}
 use Rattle.std.specs.Prelude.{nat_lt, slice_index, slice_index_or, true, if◌then◌else◌}
+use Rattle.std.specs.Prelude.{map}
+use Rattle.std.specs.List.{range_with_len}
 use Rattle.std.specs.Int.{bit_at}
 use Rattle.flat_table.specs.Table.{TableView, places_of}
 use Rattle.flat_table.specs.Walk.{root_of}
 use Rattle.flat_table.specs.Word.{is_node, next_place}
 use Rattle.flat_table.specs.Batch.{keys_in}
-use Rattle.scalar_walk.specs.Lanes.{ended}
+use Rattle.scalar_walk.specs.Lanes.{ended, word_in}
 use Rattle.table_sizes.specs.Groups.{max_key_len}
 use Rattle.table_sizes.specs.Sizes.{max_keys}
 use Rattle.lane_walk.specs.declared.fleet.Course.{Course}
 use Rattle.lane_walk.specs.declared.fleet.Fleet.{Fleet}
+use Rattle.lane_walk.specs.declared.walks.Walks.{Walks}
 
 -- the places stand one after the other
 abbrev pub IsStraight : List ℕ → Type 0
@@ -52,22 +55,16 @@ pub record TakesNext (words bytes : List ℕ) (word at new_word new_at : ℕ) : 
       new_word ≡ slice_index words (next_place word (slice_index bytes at))
   pub place : new_at ≡ (at + 1) % 2 ^ 32
 
+-- the first words of these low and high halves, so many
+abbrev pub words_of : ℕ → List ℕ → List ℕ → List ℕ
+words_of n lows highs = map (λ lane. word_in lows highs lane) (range_with_len 0 n)
+
 -- ---- fleets of so many lanes
 module _ {W : ℕ} where
   -- the lane of a fleet takes its next word
   abbrev pub StepsOn : List ℕ → List ℕ → Fleet W → Fleet W → ℕ → Type 0
   StepsOn words bytes old new lane = TakesNext words bytes (slice_index old.words lane)
       (slice_index old.ats lane) (slice_index new.words lane) (slice_index new.ats lane)
-
-  -- the lane stands where it stood
-  abbrev pub StaysAt : Fleet W → Fleet W → ℕ → Type 0
-  StaysAt old new lane = (slice_index new.words lane ≡ slice_index old.words lane)
-      × (slice_index new.ats lane ≡ slice_index old.ats lane)
-
-  -- the keys are those that were walked, and no job was given out
-  abbrev pub SameKeys : Fleet W → Fleet W → Type 0
-  SameKeys old new =
-      (new.keys ≡ old.keys) × (new.given ≡ old.given) × (new.course ≡ old.course)
 
   -- the lane with the walk of the next job, at the root
   abbrev pub set_out : Fleet W → ℕ → Fleet W
@@ -116,7 +113,6 @@ module _ {W : ℕ} where
     pub all : from.course.jobs ≤ from.given + set_below mask n →
         now.given ≡ from.course.jobs
     pub course : now.course ≡ from.course
-    pub stays : (lane : ℕ) → (bit_at mask lane ≡ 0) ⊎ (n ≤ lane) → StaysAt from now lane
     pub walks : (lane : ℕ) → (bit_at mask lane ≡ 0) ⊎ (n ≤ lane) →
         slice_index now.keys lane ≡ slice_index from.keys lane
     pub begins : (lane : ℕ) → lane < n → bit_at mask lane ≡ 1 →
@@ -138,17 +134,64 @@ module _ {W : ℕ} where
     pub len : length new ≡ length rows
     pub past : drop from.course.jobs new ≡ drop from.course.jobs rows
 
-  -- all lanes took a word, and those that were empty, which a mask says, were settled
+  -- each lane that was not empty took a word, and those that were, which a mask says, were settled
   pub record TurnsAll (words bytes : List ℕ) (old new : Fleet W) (rows now : List (List ℕ))
       (busy : ℕ) : Type 0 where
     pub empty : ℕ
-    pub stepped : Fleet W
-    pub steps : (lane : ℕ) → lane < W → StepsOn words bytes old stepped lane
-    pub same : SameKeys old stepped
     pub bits : (lane : ℕ) → lane < W →
         bit_at empty lane ≡ over_bit (slice_index old.words lane)
-    pub settled : SettledTo empty W old.words stepped new rows now
+    pub steps : (lane : ℕ) → lane < W → bit_at empty lane ≡ 0 → StepsOn words bytes old new lane
+    pub settled : SettledTo empty W old.words old new rows now
     pub busy_is : busy + set_below empty W ≡ W
+
+  -- ---- their walks
+
+  -- the words at which they stand
+  abbrev pub words_in : Walks W → List ℕ
+  words_in walks = words_of W walks.lows walks.highs
+
+  -- the fleet as its walks go: their words, and the places of the bytes that they read next
+  abbrev pub fleet_of : Walks W → Fleet W → Fleet W
+  fleet_of walks fleet = record {
+    course = fleet.course;
+    given = fleet.given;
+    words = words_in walks;
+    ats = walks.ats;
+    keys = fleet.keys;
+  }
+
+  -- the lane has the byte at its place, if there is one
+  abbrev pub HasByte : List ℕ → Walks W → ℕ → Type 0
+  HasByte bytes walks lane = slice_index walks.ats lane < length bytes →
+      slice_index walks.bytes lane ≡ slice_index bytes (slice_index walks.ats lane)
+
+  -- the lane took what the fleet had for it
+  pub record IsAcross (bytes : List ℕ) (fleet : Fleet W) (new : Walks W) (lane : ℕ) : Type 0 where
+    pub word_is : word_in new.lows new.highs lane ≡ slice_index fleet.words lane
+    pub place : slice_index new.ats lane ≡ slice_index fleet.ats lane
+    pub byte : HasByte bytes new lane
+
+  -- the lane took the word after its own by its byte, if there is this, and reads the next byte; or
+  -- it was empty, and took what the fleet had for it
+  pub record GoesOn (words bytes : List ℕ) (fleet : Fleet W) (old new : Walks W) (lane : ℕ)
+      : Type 0 where
+    pub word_is : over_bit (word_in old.lows old.highs lane) ≡ 0 →
+        is_node (word_in old.lows old.highs lane) ≡ true →
+        slice_index old.bytes lane < 256 →
+        next_place (word_in old.lows old.highs lane) (slice_index old.bytes lane) < length words →
+        word_in new.lows new.highs lane ≡ slice_index words
+        (next_place (word_in old.lows old.highs lane) (slice_index old.bytes lane))
+    pub place : over_bit (word_in old.lows old.highs lane) ≡ 0 →
+        slice_index new.ats lane ≡ (slice_index old.ats lane + 1) % 2 ^ 32
+    pub across : over_bit (word_in old.lows old.highs lane) ≡ 1 → IsAcross bytes fleet new lane
+    pub byte : HasByte bytes new lane
+
+  -- the lane stands where it stood
+  pub record StaysIn (old new : Walks W) (lane : ℕ) : Type 0 where
+    pub low : slice_index new.lows lane ≡ slice_index old.lows lane
+    pub high : slice_index new.highs lane ≡ slice_index old.highs lane
+    pub place : slice_index new.ats lane ≡ slice_index old.ats lane
+    pub byte : slice_index new.bytes lane ≡ slice_index old.bytes lane
 
 -- each lane that was used notes its word, and nothing else is noted
 pub record NotesLast (used jobs : ℕ) (words keys_of : List ℕ) (rows new : List (List ℕ))

@@ -17,6 +17,7 @@ ghost use Rattle.lane_walk.specs.Turn.{AreAllNoted, IsLanes};
 use crate::fleet::{Fleet, course_of, is_fleet};
 use crate::lanes::LaneFlows;
 use crate::rows::join_noted;
+use crate::walks::Walks;
 use flat_table::laws::walks_go_step_by_step;
 use flat_table::{Steps, Table};
 use flow_core::laws::{every_schedule, stay_in};
@@ -107,14 +108,15 @@ fn fly_straight<const W: usize, L: Ledger>(
     let words = table.words();
     let (last, last_byte) = ((words.len() - 1) as u32, (keys.len() - 1) as u32);
     let mut fleet = Fleet::<W>::begin(course_of(table, keys));
+    let mut walks = Walks::<W>::begin(keys, last_byte, &fleet);
     let (mut taken, mut turns) = (0u64, 1u64);
-    while !fleet.done() {
-        let busy = fleet.turn(words, last, keys, last_byte, scratch);
+    while !fleet.done(&walks) {
+        let busy = fleet.turn(&mut walks, words, last, keys, last_byte, scratch);
         raise_by(steps, busy);
         taken += u64::from(busy);
         turns += 1;
     }
-    fleet.note_last(scratch);
+    fleet.note_last(&walks, scratch);
     Flown { taken, turns }
 }
 

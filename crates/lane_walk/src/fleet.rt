@@ -1,33 +1,27 @@
-//! Lanes over a table of one trie whose places stand one after the other: a number for each lane,
-//! in arrays that vectors read.
+//! Lanes over a table of one trie whose places stand one after the other: which keys they walk, and
+//! what empty ones take in a turn.
 //!
-//! In a turn all lanes take a word, and what an empty one takes is thrown away. A lane whose walk
-//! ended keeps its word, and notes the row that it names when it takes its next key.
+//! A lane whose walk ended keeps its word, and notes the row that it names when it takes its next
+//! key. The words stand in `Walks`.
 
 ghost use Rattle.std.specs.Prelude.{◌≡◌, ℕ, ◌+◌, ◌*◌, ◌/◌, ◌%◌, ◌^◌, ◌<◌, ◌≤◌, ◌⊎◌, length, true};
-ghost use Rattle.std.specs.Prelude.{nat_le, nat_lt, slice_index, if◌then◌else◌, ◌&&◌, min};
+ghost use Rattle.std.specs.Prelude.{nat_le, slice_index, ◌&&◌, min};
 ghost use Rattle.std.specs.List.{list_all};
-ghost use Rattle.std.specs.Int.{bit_at};
 ghost use Rattle.table_sizes.specs.Groups.{max_key_len};
 ghost use Rattle.table_sizes.specs.Sizes.{max_keys};
 ghost use Rattle.flat_table.specs.Batch.{keys_in};
 ghost use Rattle.flat_table.specs.Table.{places_of};
 ghost use Rattle.flat_table.specs.Word.{is_match};
 ghost use Rattle.flow_core.specs.Standing.{BatchFits};
-ghost use Rattle.scalar_walk.specs.Lanes.{ended};
 ghost use Rattle.lane_walk.specs.Turn.{IsLanes};
-ghost use Rattle.lane_walk.specs.Fleet.{IsCourse, IsStraight, SameKeys, SettledTo, SettlesLane};
-ghost use Rattle.lane_walk.specs.Fleet.{StaysAt, StepsOn, IsBegun, over_bit, NotesLast, TurnsAll, set_below, set_out};
+ghost use Rattle.lane_walk.specs.Fleet.{IsCourse, IsStraight, SettledTo, SettlesLane, IsBegun};
+ghost use Rattle.lane_walk.specs.Fleet.{HasByte, NotesLast, TurnsAll, fleet_of, set_below, set_out};
+ghost use Rattle.lane_walk.specs.Fleet.{words_in, words_of};
 
-use crate::flights::{AT_ONCE, words_at};
+use crate::walks::{Walks, word_of};
 use flat_table::{INDEX_BITS, MATCH, Table, is_match};
 use flow_core::Scratch;
 use flow_core::laws::stay_in;
-use scalar_walk::four_places;
-use std::simd::{u32x4, u64x2};
-
-/// The low half of the least word that ends a walk.
-const ENDED: u32 = 0x8000_0000;
 
 /// What lanes go by over a table and keys.
 #[derive(Clone, Copy)]
@@ -42,17 +36,17 @@ pub(crate) struct Course {
     pub(crate) root: u64,
 }
 
-/// Lanes of a flow machine of `W` slots, 4, 8 or 16. The slot of a lane is empty where its word is
-/// a match.
+/// The keys of the lanes of a flow machine of `W` slots, 4, 8 or 16, and what lanes take that were
+/// empty before a turn.
 #[derive(Drop)]
 pub(crate) struct Fleet<const W: usize> {
     /// What they go by.
     pub(crate) course: Course,
     /// How many jobs were given out.
     pub(crate) given: usize,
-    /// Their words.
+    /// The words that empty lanes take.
     pub(crate) words: [u64; W],
-    /// Where the bytes that are read next stand among those of all keys.
+    /// Where the bytes that these read then stand among those of all keys.
     pub(crate) ats: [u32; W],
     /// The keys that are walked, or were last, by their numbers.
     pub(crate) keys: [usize; W],
@@ -103,141 +97,6 @@ fn have_last(count: usize) -> bool
     0 < count && count < 1 << 32
 }
 
-/// Four of the numbers, from one on.
-#[inline]
-fn four_words<const W: usize>(numbers: &[u64; W], first: usize) -> [u64; AT_ONCE]
-    requires { first + AT_ONCE ≤ W }
-    ensures { (k : ℕ) → k < AT_ONCE → slice_index result k ≡ slice_index numbers.now (first + k) }
-{
-    [
-        numbers[first],
-        numbers[first + 1],
-        numbers[first + 2],
-        numbers[first + 3],
-    ]
-}
-
-/// The same of numbers of 32 bits.
-#[inline]
-fn four_ats<const W: usize>(numbers: &[u32; W], first: usize) -> [u32; AT_ONCE]
-    requires { first + AT_ONCE ≤ W }
-    ensures { (k : ℕ) → k < AT_ONCE → slice_index result k ≡ slice_index numbers.now (first + k) }
-{
-    [
-        numbers[first],
-        numbers[first + 1],
-        numbers[first + 2],
-        numbers[first + 3],
-    ]
-}
-
-/// Makes four of the numbers these, from one on.
-#[inline]
-fn put_words<const W: usize>(numbers: &mut [u64; W], first: usize, four: &[u64; AT_ONCE])
-    requires { first + AT_ONCE ≤ W }
-    ensures four { (k : ℕ) → k < AT_ONCE →
-        slice_index numbers.new (first + k) ≡ slice_index four.now k }
-    ensures others { (i : ℕ) → (i < first) ⊎ (first + AT_ONCE ≤ i) →
-        slice_index numbers.new i ≡ slice_index numbers.old i }
-{
-    numbers[first] = four[0];
-    numbers[first + 1] = four[1];
-    numbers[first + 2] = four[2];
-    numbers[first + 3] = four[3];
-}
-
-/// The same of numbers of 32 bits.
-#[inline]
-fn put_ats<const W: usize>(numbers: &mut [u32; W], first: usize, four: &[u32; AT_ONCE])
-    requires { first + AT_ONCE ≤ W }
-    ensures four { (k : ℕ) → k < AT_ONCE →
-        slice_index numbers.new (first + k) ≡ slice_index four.now k }
-    ensures others { (i : ℕ) → (i < first) ⊎ (first + AT_ONCE ≤ i) →
-        slice_index numbers.new i ≡ slice_index numbers.old i }
-{
-    numbers[first] = four[0];
-    numbers[first + 1] = four[1];
-    numbers[first + 2] = four[2];
-    numbers[first + 3] = four[3];
-}
-
-/// The numbers after four.
-#[inline]
-fn after_four(ats: &[u32; AT_ONCE]) -> [u32; AT_ONCE]
-    ensures { (k : ℕ) → k < AT_ONCE →
-        slice_index result k ≡ (slice_index ats.now k + 1) % 2 ^ 32 }
-{
-    [
-        ats[0].wrapping_add(1),
-        ats[1].wrapping_add(1),
-        ats[2].wrapping_add(1),
-        ats[3].wrapping_add(1),
-    ]
-}
-
-/// The places, of which each that is above the last is the last instead.
-#[inline]
-fn below(places: &[u32; AT_ONCE], last: u32) -> [u32; AT_ONCE]
-    ensures below { (k : ℕ) → k < AT_ONCE → slice_index result k ≤ last }
-    ensures same { (k : ℕ) → k < AT_ONCE → slice_index places.now k ≤ last →
-        slice_index result k ≡ slice_index places.now k }
-{
-    u32x4::from_array(*places)
-        .simd_min(u32x4::splat(last))
-        .to_array()
-}
-
-/// The bytes at four places. Where a place is after the last one, it is the last byte.
-#[inline]
-fn bytes_at(bytes: &[u8], last: u32, ats: &[u32; AT_ONCE]) -> [u8; AT_ONCE]
-    requires { last < length bytes.now }
-    ensures { (k : ℕ) → k < AT_ONCE → slice_index ats.now k ≤ last →
-        slice_index result k ≡ slice_index bytes.now (slice_index ats.now k) }
-{
-    let at = below(ats, last);
-    [
-        bytes[at[0] as usize],
-        bytes[at[1] as usize],
-        bytes[at[2] as usize],
-        bytes[at[3] as usize],
-    ]
-}
-
-/// The words at four places. Where a place is after the last one, it is the last word.
-#[inline]
-fn words_below(words: &[u64], last: u32, places: &[u32; AT_ONCE]) -> [u64; AT_ONCE]
-    requires { last < length words.now }
-    ensures { (k : ℕ) → k < AT_ONCE → slice_index places.now k ≤ last →
-        slice_index result k ≡ slice_index words.now (slice_index places.now k) }
-{
-    words_at(words, &below(places, last))
-}
-
-/// The low halves of four words.
-#[inline]
-fn low_halves(words: &[u64; AT_ONCE]) -> u32x4
-    ensures len { length result ≡ 4 }
-    ensures lows { (i : ℕ) → i < 4 → slice_index result i ≡ slice_index words.now i % 2 ^ 32 }
-{
-    let first = u64x2::from_array([words[0], words[1]]);
-    let second = u64x2::from_array([words[2], words[3]]);
-    let first = u32x4::from_le_bytes(first.to_le_bytes());
-    let second = u32x4::from_le_bytes(second.to_le_bytes());
-    let (lows, _) = first.deinterleave(second);
-    lows
-}
-
-/// A bit for each of four low halves, the first one lowest: 1 where it is that of a match.
-#[inline]
-fn ends_in(lows: u32x4) -> u64
-    requires { length lows ≡ 4 }
-    ensures bits { (i : ℕ) → i < 4 → bit_at result i
-        ≡ (if nat_lt (slice_index lows i) ended then 0 else 1) }
-    ensures few { result < 2 ^ 4 }
-{
-    lows.simd_ge(u32x4::splat(ENDED)).to_bitmask()
-}
-
 impl<const W: usize> Fleet<W> {
     /// Each of the first lanes walks the key of its own number. The others are empty.
     pub(crate) fn begin(course: Course) -> Fleet<W>
@@ -265,12 +124,13 @@ impl<const W: usize> Fleet<W> {
     }
 
     /// Whether no job is left, and every slot is empty.
-    pub(crate) fn done(&self) -> bool
-        ensures done { result ≡ (nat_le self.now.course.jobs self.now.given
-            && list_all is_match self.now.words) }
-        ensures wide { length self.now.words ≡ W }
+    #[inline]
+    pub(crate) fn done(&self, walks: &Walks<W>) -> bool
+        requires { IsLanes W }
+        ensures { result ≡ (nat_le self.now.course.jobs self.now.given
+            && list_all is_match (words_in walks.now)) }
     {
-        self.course.jobs <= self.given && are_matches(&self.words)
+        self.course.jobs <= self.given && are_matches(&walks.words())
     }
 
     /// The lane at the root, with the walk of the next job.
@@ -288,51 +148,6 @@ impl<const W: usize> Fleet<W> {
         self.ats[lane] = at as u32;
         self.keys[lane] = key;
         self.given = key + 1;
-    }
-
-    /// Four lanes take their next words, from one on: a bit for each, the first one lowest, which
-    /// is 1 where the lane was empty. Such a lane takes any word.
-    #[inline]
-    fn step(&mut self, words: &[u64], last: u32, keys: &[u8], last_byte: u32, first: usize) -> u64
-        requires first { first + AT_ONCE ≤ W }
-        requires last { last + 1 ≡ length words.now }
-        requires last_byte { last_byte + 1 ≡ length keys.now }
-        ensures steps { (k : ℕ) → k < AT_ONCE →
-            StepsOn words.now keys.now self.old self.new (first + k) }
-        ensures others { (lane : ℕ) → (lane < first) ⊎ (first + AT_ONCE ≤ lane) →
-            StaysAt self.old self.new lane }
-        ensures same { SameKeys self.old self.new }
-        ensures bits { (k : ℕ) → k < AT_ONCE → bit_at result k
-            ≡ over_bit (slice_index self.old.words (first + k)) }
-        ensures few { result < 2 ^ 4 }
-    {
-        let from = four_words(&self.words, first);
-        let ats = four_ats(&self.ats, first);
-        let places = four_places(&from, &bytes_at(keys, last_byte, &ats));
-        put_words(&mut self.words, first, &words_below(words, last, &places));
-        put_ats(&mut self.ats, first, &after_four(&ats));
-        ends_in(low_halves(&from))
-    }
-
-    /// All lanes take their next words: a bit for each, the first one lowest, which is 1 where the
-    /// lane was empty. Such a lane takes any word.
-    #[inline]
-    fn step_all(&mut self, words: &[u64], last: u32, keys: &[u8], last_byte: u32) -> u64
-        requires lanes { IsLanes W }
-        requires last { last + 1 ≡ length words.now }
-        requires last_byte { last_byte + 1 ≡ length keys.now }
-        ensures steps { (lane : ℕ) → lane < W → StepsOn words.now keys.now self.old self.new lane }
-        ensures same { SameKeys self.old self.new }
-        ensures bits { (lane : ℕ) → lane < W → bit_at result lane
-            ≡ over_bit (slice_index self.old.words lane) }
-        ensures few { result < 2 ^ W }
-    {
-        let mut empty = 0;
-        for group in 0..W / AT_ONCE {
-            let first = group * AT_ONCE;
-            empty += self.step(words, last, keys, last_byte, first) << first;
-        }
-        empty
     }
 
     /// An empty lane, which kept this word: the word is noted, and the lane takes the next job. If
@@ -354,9 +169,15 @@ impl<const W: usize> Fleet<W> {
         }
     }
 
-    /// The lanes that were empty, with these words, and how many there were.
+    /// The lanes that were empty, with the words of these halves, and how many there were.
     #[inline]
-    fn settle(&mut self, words: &[u64; W], empty: u64, scratch: &mut Scratch) -> u32
+    fn settle(
+        &mut self,
+        lows: &[u32; W],
+        highs: &[u32; W],
+        empty: u64,
+        scratch: &mut Scratch,
+    ) -> u32
         requires width { W ≤ 16 }
         requires empty { empty < 2 ^ W }
         requires jobs { self.old.course.jobs ≤ max_keys }
@@ -366,7 +187,8 @@ impl<const W: usize> Fleet<W> {
         requires small { (lane : ℕ) → lane < W →
             slice_index self.old.keys lane < self.old.course.jobs }
         requires room { self.old.course.jobs ≤ length scratch.old }
-        ensures settled { SettledTo empty W words.now self.old self.new scratch.old scratch.new }
+        ensures settled { SettledTo empty W (words_of W lows.now highs.now) self.old self.new
+            scratch.old scratch.new }
         ensures count { result ≡ set_below empty W }
     {
         let mut rest = empty;
@@ -374,16 +196,46 @@ impl<const W: usize> Fleet<W> {
         while rest != 0 {
             let lane = rest.trailing_zeros() as usize;
             rest &= !(1 << lane);
-            self.settle_lane(lane, words[lane], scratch);
+            self.settle_lane(lane, word_of(lows[lane], highs[lane]), scratch);
             count += 1;
         }
         count
+    }
+
+    /// What empty lanes take, which the bits say: the next jobs, or their own words where none is
+    /// left. It says how many such lanes there are.
+    #[inline]
+    fn prepare(&mut self, walks: &Walks<W>, empty: u64, scratch: &mut Scratch) -> u32
+        requires lanes { IsLanes W }
+        requires empty { empty < 2 ^ W }
+        requires jobs { self.old.course.jobs ≤ max_keys }
+        requires given { self.old.given ≤ self.old.course.jobs }
+        requires len { self.old.course.len ≤ max_key_len }
+        requires first { self.old.course.first < 2 ^ 16 }
+        requires small { (lane : ℕ) → lane < W →
+            slice_index self.old.keys lane < self.old.course.jobs }
+        requires room { self.old.course.jobs ≤ length scratch.old }
+        ensures settled { SettledTo empty W (words_in walks.now) self.old self.new scratch.old
+            scratch.new }
+        ensures count { result ≡ set_below empty W }
+    {
+        if self.given == self.course.jobs {
+            self.words = walks.words();
+            return empty.count_ones();
+        }
+        if empty == 0 {
+            return 0;
+        }
+        // Copies leave the walks where vectors are.
+        let (lows, highs) = (walks.lows, walks.highs);
+        self.settle(&lows, &highs, empty, scratch)
     }
 
     /// All lanes take a word, and those that were empty their next jobs: how many were busy before.
     #[inline]
     pub(crate) fn turn(
         &mut self,
+        walks: &mut Walks<W>,
         words: &[u64],
         last: u32,
         keys: &[u8],
@@ -400,23 +252,29 @@ impl<const W: usize> Fleet<W> {
         requires small { (lane : ℕ) → lane < W →
             slice_index self.old.keys lane < self.old.course.jobs }
         requires room { self.old.course.jobs ≤ length scratch.old }
-        ensures { TurnsAll words.now keys.now self.old self.new scratch.old scratch.new result }
+        requires bytes { (lane : ℕ) → lane < W → HasByte keys.now walks.old lane }
+        ensures turns { TurnsAll words.now keys.now (fleet_of walks.old self.old)
+            (fleet_of walks.new self.new) scratch.old scratch.new result }
+        ensures bytes { (lane : ℕ) → lane < W → HasByte keys.now walks.new lane }
     {
-        let before = self.words;
-        let empty = self.step_all(words, last, keys, last_byte);
-        W as u32 - self.settle(&before, empty, scratch)
+        let empty = walks.ended();
+        let idle = self.prepare(walks, empty, scratch);
+        walks.step_all(words, last, keys, last_byte, self);
+        W as u32 - idle
     }
 
     /// The lanes that had keys note the rows to which their last walks came.
-    pub(crate) fn note_last(&self, scratch: &mut Scratch)
+    pub(crate) fn note_last(&self, walks: &Walks<W>, scratch: &mut Scratch)
+        requires lanes { IsLanes W }
         requires small { (lane : ℕ) → lane < W →
             slice_index self.now.keys lane < self.now.course.jobs }
         requires room { self.now.course.jobs ≤ length scratch.old }
-        ensures { NotesLast (min W self.now.course.jobs) self.now.course.jobs self.now.words
+        ensures { NotesLast (min W self.now.course.jobs) self.now.course.jobs (words_in walks.now)
             self.now.keys scratch.old scratch.new }
     {
+        let words = walks.words();
         for lane in 0..W.min(self.course.jobs) {
-            scratch.note(self.keys[lane], 0, self.words[lane]);
+            scratch.note(self.keys[lane], 0, words[lane]);
         }
     }
 }

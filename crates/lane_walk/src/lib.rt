@@ -8,7 +8,8 @@
 //! Over a table of one trie whose places stand one after the other all lanes take a word at once,
 //! busy or not, and what an empty one takes is thrown away.
 //!
-//! - `fleet`: a turn over such a table, by a number for each lane.
+//! - `fleet`: a turn over such a table, and which keys its lanes walk.
+//! - `walks`: the words at which these lanes stand, and their next ones, by vectors.
 //! - `flights`: what lanes keep otherwise, and how it goes on.
 //! - `lanes`: the machine and its turn.
 //! - `noting`: the same turn, which notes the rows that walks reach instead of joining them.
@@ -24,6 +25,7 @@ mod flights;
 mod lanes;
 mod noting;
 mod rows;
+mod walks;
 
 pub use classify::{Flown, classify_lanes, classify_lanes_marked};
 pub use lanes::LaneFlows;

@@ -4,7 +4,7 @@ use Rattle.std.specs.Simd.Lanes.{zip2, sel_l}
 use Rattle.std.proofs.lemmas.Bool.Decides.{nat_tests}
 use Rattle.std.proofs.lemmas.List.{get_or-replicate, length-replicate}
 use Rattle.std.proofs.lemmas.Simd.{tops_compared, get_or-sel_l, get_or-zip2, length-zip2}
-use Rattle.lane_walk.proofs.fleet.below.Goals as goal
+use Rattle.lane_walk.proofs.walks.below.Goals as goal
 
 -- the lesser of two is none above the second
 lesser : (p last : ℕ) → cond (ltb p last) p last ≤ last
@@ -31,15 +31,15 @@ lane_is xs last i len within =
 
 pub returns-clause-below : goal.returns-clause-below
 returns-clause-below c k within =
-    let xs : List ℕ = c.args.places.now in
+    let xs : List ℕ = c.args.places in
     let same = tops_compared w32 ltb xs (replicate 4 c.args.last) in
     let is = ap (λ ms. get_or (sel_l ms xs (replicate 4 c.args.last)) k 0) same
-    ∙ lane_is xs c.args.last k c.told-places within in
+    ∙ lane_is xs c.args.last k c.fits-places.0 within in
     omega (arith, is, lesser (slice_index xs k) c.args.last)
 
 pub returns-clause-same : goal.returns-clause-same
 returns-clause-same c k within few =
-    let xs : List ℕ = c.args.places.now in
+    let xs : List ℕ = c.args.places in
     let same = tops_compared w32 ltb xs (replicate 4 c.args.last) in
-    ap (λ ms. get_or (sel_l ms xs (replicate 4 c.args.last)) k 0) same ∙ lane_is xs c.args.last k c.told-places within
+    ap (λ ms. get_or (sel_l ms xs (replicate 4 c.args.last)) k 0) same ∙ lane_is xs c.args.last k c.fits-places.0 within
     ∙ itself (slice_index xs k) c.args.last few
