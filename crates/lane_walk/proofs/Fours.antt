@@ -1,6 +1,6 @@
 -- Four busy lanes that go on at once.
 use Rattle.std.proofs.Common.{◌≡◌, ℕ, ◌+◌, ◌<◌, ◌≤◌, List, sym, ap, ◌∙◌, refl, arith, lit<, length, subst, true, false}
-use Rattle.std.proofs.Common.{Bool, get_or, set, map, length-set, get_or-set_other, get_or-set_same}
+use Rattle.std.proofs.Common.{get_or, set, map, length-set, get_or-set_other, get_or-set_same}
 use Rattle.std.proofs.lemmas.List.Elements.{All-set, All-from_get_or}
 use Rattle.std.specs.Prelude.{All, slice_index, slice_index_or, None, Some}
 use Rattle.std.proofs.lemmas.List.{get_or-map}
@@ -60,26 +60,22 @@ come {table = table} before {rows = rows} onward key is =
     }
 
 -- there is a place for the note of a flight on its way
-pub room_of : {table : TableView} {keys : List ℕ} {given rows : ℕ} {flight : Flight} {one : Bool} →
-    IsOnWay table keys given flight → keys_in table keys ≤ rows → length table.roots ≤ max_tries →
-    (one ≡ true → length table.roots ≡ 1) → HasRoom one flight rows
-room_of on room few single = record {
+pub room_of : {table : TableView} {keys : List ℕ} {given rows : ℕ} {flight : Flight} →
+    IsOnWay table keys given flight → keys_in table keys ≤ rows → length table.roots ≤ max_tries → HasRoom flight rows
+room_of on room few = record {
   key = omega (arith, key_of_flight on, room);
   trie = omega (arith, trie_of_flight on, few);
-  at_first = λ is. omega (arith, trie_of_flight on, single is);
 }
 
 -- and after it has come to its next word
-pub room_for : {one : Bool} {word : ℕ} (before : Flight) {next : Flight} {rows : ℕ} → HasRoom one before rows →
-    next ≡ moved_to word before → HasRoom one next rows
-room_for {one = one} before {rows = rows} room is =
-    subst (λ (flight : Flight). HasRoom one flight rows) (sym is)
-    record { key = room.key; trie = room.trie; at_first = room.at_first }
+pub room_for : {word : ℕ} (before : Flight) {next : Flight} {rows : ℕ} → HasRoom before rows →
+    next ≡ moved_to word before → HasRoom next rows
+room_for before {rows = rows} room is =
+    subst (λ (flight : Flight). HasRoom flight rows) (sym is) record { key = room.key; trie = room.trie }
 
 -- with as many rows there is still a place
-pub still : {one : Bool} {flight : Flight} {rows new : ℕ} → HasRoom one flight rows → new ≡ rows →
-    HasRoom one flight new
-still {one = one} {flight = flight} has is = subst (λ (n : ℕ). HasRoom one flight n) (sym is) has
+pub still : {flight : Flight} {rows new : ℕ} → HasRoom flight rows → new ≡ rows → HasRoom flight new
+still {flight = flight} has is = subst (λ (n : ℕ). HasRoom flight n) (sym is) has
 
 -- what is noted of a flight at its next word is what is noted of the flight and the word
 pub noted_as : {flight next : Flight} {word : ℕ} {old new : List (List ℕ)} → next ≡ moved_to word flight →
@@ -285,10 +281,10 @@ module _ {table : TableView} {keys : List ℕ} {jobs given : ℕ} (flights : Lis
         (lawful (get_or flights first no_one) (goes 0 (lit< tt)).onward is_one) all)))
 
     -- there is a place for the note of each of the four flights
-    pub four_room : {only : Bool} → (only ≡ true → length table.roots ≡ 1) → length table.roots ≤ max_tries →
-        (k : ℕ) → k < 4 → HasRoom only (get_or f4 (first + k) no_one) (length rows)
-    four_room single few k h = room_for (get_or flights (first + k) no_one)
-        (room_of (lands_at k h).on_way a.stands.fits.room few single) (four_at k h)
+    pub four_room : length table.roots ≤ max_tries → (k : ℕ) → k < 4 →
+        HasRoom (get_or f4 (first + k) no_one) (length rows)
+    four_room few k h = room_for (get_or flights (first + k) no_one)
+        (room_of (lands_at k h).on_way a.stands.fits.room few) (four_at k h)
 
     -- and each was stepped
     pub four_go : {new : List (List ℕ)} → NotesFour f4 first rows new →

@@ -71,11 +71,10 @@ pub record HasCome (table : TableView) (flight : Flight) (rows : ℕ) : Type 0 w
   pub row : is_match flight.word ≡ true → index_of flight.word < length table.rows
   pub key : flight.key < rows
 
--- there is a place for the note of the flight's word; where there is one trie, it is of that one
-pub record HasRoom (one : Bool) (flight : Flight) (rows : ℕ) : Type 0 where
+-- there is a place for the note of the flight's word
+pub record HasRoom (flight : Flight) (rows : ℕ) : Type 0 where
   pub key : flight.key < rows
   pub trie : flight.trie < row_len
-  pub at_first : one ≡ true → flight.trie ≡ 0
 
 -- so many slots were stepped, from one on and in order, and the later ones hold what they held
 pub record StepsLanes (table : TableView) (keys : List ℕ) (before : Machine) (old : List (List ℕ))

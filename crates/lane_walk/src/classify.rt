@@ -48,13 +48,12 @@ fn raise_by<L: Ledger>(steps: &mut Steps<L>, count: u32)
 /// Turns of a machine of `W` lanes from its beginning on, until it is done. The row that each walk
 /// reaches is then noted in the row of its key, and all other rows of the scratch stay.
 #[inline]
-fn fly_of<const W: usize, const ONE: bool, L: Ledger>(
+fn fly_each<const W: usize, L: Ledger>(
     table: &Table,
     keys: &[u8],
     scratch: &mut Scratch,
     steps: &mut Steps<L>,
 ) -> Flown
-    requires one { ONE ≡ true → length table.now.roots ≡ 1 }
     requires lanes { IsLanes W }
     requires fits { BatchFits table.now keys.now (length scratch.old) }
     ensures taken { result.taken ≡ batch_transitions table.now keys.now }
@@ -71,7 +70,7 @@ fn fly_of<const W: usize, const ONE: bool, L: Ledger>(
     let mut lanes = LaneFlows::<W>::begin_noting(table, keys);
     let (mut taken, mut turns) = (0u64, 0u64);
     while !lanes.done() {
-        let busy = lanes.turn_noting::<ONE>(table, keys, scratch);
+        let busy = lanes.turn_noting(table, keys, scratch);
         raise_by(steps, busy);
         taken += u64::from(busy);
         turns += 1;
@@ -137,12 +136,10 @@ fn note_walks<const W: usize, L: Ledger>(
         ≡ drop (keys_in table.now keys.now) scratch.old }
     ensures len { length scratch.new ≡ length scratch.old }
 {
-    if table.tries() != 1 {
-        fly_of::<W, false, L>(table, keys, scratch, steps)
-    } else if is_fleet(table, keys) {
+    if table.tries() == 1 && is_fleet(table, keys) {
         fly_straight::<W, L>(table, keys, scratch, steps)
     } else {
-        fly_of::<W, true, L>(table, keys, scratch, steps)
+        fly_each::<W, L>(table, keys, scratch, steps)
     }
 }
 

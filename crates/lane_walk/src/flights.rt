@@ -17,16 +17,6 @@ use flow_core::{Flight, Scratch};
 /// How many lanes are stepped at once.
 pub(crate) const AT_ONCE: usize = 4;
 
-/// Whether the word of a lane ends a walk. Of a lane that is known to be busy it isn't asked.
-#[inline]
-pub(crate) fn is_at_end<const BUSY: bool>(word: u64) -> bool
-    requires node { is_match word ≡ false → is_node word ≡ true }
-    requires busy { BUSY ≡ true → is_match word ≡ false }
-    ensures { result ≡ is_match word }
-{
-    !BUSY && is_end(word)
-}
-
 /// What a lane keeps whose slot is empty.
 #[inline]
 pub(crate) fn no_flight() -> Flight
@@ -60,20 +50,6 @@ pub(crate) fn join_match(table: &Table, scratch: &mut Scratch, flight: &Flight)
 {
     let (key, word) = (flight.key, flight.word);
     scratch.join(key, table.row(index_of(word)));
-}
-
-/// The flight as it is. Where the table has one trie, its flights are of that one, and it is no
-/// longer read where its places lie.
-#[inline]
-pub(crate) fn of_trie<const ONE: bool>(flight: Flight) -> Flight
-    requires { ONE ≡ true → flight.trie ≡ 0 }
-    ensures { result ≡ flight }
-{
-    if ONE {
-        Flight { trie: 0, ..flight }
-    } else {
-        flight
-    }
 }
 
 /// Where the flight came to a match, the row that it names is joined into that of its key.
@@ -133,39 +109,38 @@ pub(crate) fn words_at(words: &[u64], places: &[u32; AT_ONCE]) -> [u64; AT_ONCE]
 /// Of the notes for a key and trie only the last is read, whose word ends the walk. But a processor
 /// guesses badly which word does so, and a note takes less time than a wrong guess.
 #[inline]
-pub(crate) fn note_word<const ONE: bool>(scratch: &mut Scratch, flight: &Flight)
-    requires { HasRoom ONE flight.now (length scratch.old) }
+pub(crate) fn note_word(scratch: &mut Scratch, flight: &Flight)
+    requires { HasRoom flight.now (length scratch.old) }
     ensures notes { Notes flight.now flight.now.word scratch.old scratch.new }
     ensures len { length scratch.new ≡ length scratch.old }
 {
-    let flight = of_trie::<ONE>(*flight);
     scratch.note(flight.key, flight.trie, flight.word);
 }
 
 /// The next word of a flight, which is noted for the flight's key and trie.
 #[inline]
-pub(crate) fn land_noted<const ONE: bool>(scratch: &mut Scratch, flight: &mut Flight, word: u64)
+pub(crate) fn land_noted(scratch: &mut Scratch, flight: &mut Flight, word: u64)
     requires lawful { is_match word ≡ false → is_node word ≡ true }
     requires depth { flight.old.depth < max_key_len }
-    requires room { HasRoom ONE flight.old (length scratch.old) }
+    requires room { HasRoom flight.old (length scratch.old) }
     ensures held { held_in flight.new ≡ held_after flight.old word }
     ensures lawful { EndsOrLeads flight.new }
     ensures notes { Notes flight.old word scratch.old scratch.new }
 {
     go_on(flight, word);
-    note_word::<ONE>(scratch, flight);
+    note_word(scratch, flight);
 }
 
 /// Notes the words of four flights, from one on and in order.
 #[inline]
-pub(crate) fn note_each<const ONE: bool>(scratch: &mut Scratch, flights: &[Flight], first: usize)
+pub(crate) fn note_each(scratch: &mut Scratch, flights: &[Flight], first: usize)
     requires room { first + AT_ONCE ≤ length flights.now }
-    requires come { (k : ℕ) → k < AT_ONCE → HasRoom ONE
+    requires come { (k : ℕ) → k < AT_ONCE → HasRoom
         (slice_index_or flights.now (first + k) no_one) (length scratch.old) }
     ensures { NotesFour flights.now first scratch.old scratch.new }
 {
-    note_word::<ONE>(scratch, &flights[first]);
-    note_word::<ONE>(scratch, &flights[first + 1]);
-    note_word::<ONE>(scratch, &flights[first + 2]);
-    note_word::<ONE>(scratch, &flights[first + 3]);
+    note_word(scratch, &flights[first]);
+    note_word(scratch, &flights[first + 1]);
+    note_word(scratch, &flights[first + 2]);
+    note_word(scratch, &flights[first + 3]);
 }

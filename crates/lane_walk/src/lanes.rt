@@ -11,9 +11,9 @@ ghost use Rattle.flow_core.specs.Machine.{Machine, state_of, first_state, is_don
 ghost use Rattle.flow_core.specs.Standing.{BatchFits, StandsOver, LeadsOnward};
 ghost use Rattle.flow_core.specs.Standing.{held_after, rows_after};
 ghost use Rattle.lane_walk.specs.Turn.{IsLanes, is_busy, busy_slots, flow_turn, held_in};
-ghost use Rattle.lane_walk.specs.Turn.{AreBusy, EndsOrLeads, GoesBy, IsPlaceOf, StepsLanes};
+ghost use Rattle.lane_walk.specs.Turn.{EndsOrLeads, GoesBy, IsPlaceOf, StepsLanes};
 
-use crate::flights::{AT_ONCE, are_empty, is_at_end, land, no_flight, of_trie};
+use crate::flights::{AT_ONCE, are_empty, land, no_flight};
 use flat_table::{Table, is_end};
 use flow_core::laws::stay_in;
 use flow_core::{Flight, Scratch, byte_of, flight_of};
@@ -86,46 +86,31 @@ impl<const W: usize> LaneFlows<W> {
 
     /// The word and the key byte by which the lane goes on, or any byte where it is empty.
     #[inline]
-    fn read_lane<const ONE: bool, const BUSY: bool>(
-        &self,
-        table: &Table,
-        keys: &[u8],
-        lane: usize,
-    ) -> (u64, u8)
-        requires one { ONE ≡ true → length table.now.roots ≡ 1 }
+    fn read_lane(&self, table: &Table, keys: &[u8], lane: usize) -> (u64, u8)
         requires lane { lane < W }
-        requires busy { BUSY ≡ true → is_busy (slice_index_or self.now.slots lane None) ≡ true }
         requires stands { (rows : ℕ) × StandsOver table.now keys.now self.now rows }
         ensures { GoesBy table.now keys.now (slice_index_or self.now.slots lane None) result.0
             result.1 }
     {
         let flight = self.flights[lane];
-        if is_at_end::<BUSY>(flight.word) {
+        if is_end(flight.word) {
             return (flight.word, 0);
         }
-        (flight.word, byte_of(table, keys, of_trie::<ONE>(flight)))
+        (flight.word, byte_of(table, keys, flight))
     }
 
-    /// The places of the words that four lanes take next, from one on, which may be known to be
-    /// busy.
+    /// The places of the words that four lanes take next, from one on.
     #[inline]
-    pub(crate) fn places_from<const ONE: bool, const BUSY: bool>(
-        &self,
-        table: &Table,
-        keys: &[u8],
-        first: usize,
-    ) -> [u32; AT_ONCE]
-        requires one { ONE ≡ true → length table.now.roots ≡ 1 }
+    pub(crate) fn places_from(&self, table: &Table, keys: &[u8], first: usize) -> [u32; AT_ONCE]
         requires first { first + AT_ONCE ≤ W }
-        requires busy { BUSY ≡ true → AreBusy self.now first }
         requires stands { (rows : ℕ) × StandsOver table.now keys.now self.now rows }
         ensures { (k : ℕ) → k < AT_ONCE → IsPlaceOf table.now keys.now
             (slice_index_or self.now.slots (first + k) None) (slice_index result k) }
     {
-        let one = self.read_lane::<ONE, BUSY>(table, keys, first);
-        let two = self.read_lane::<ONE, BUSY>(table, keys, first + 1);
-        let three = self.read_lane::<ONE, BUSY>(table, keys, first + 2);
-        let four = self.read_lane::<ONE, BUSY>(table, keys, first + 3);
+        let one = self.read_lane(table, keys, first);
+        let two = self.read_lane(table, keys, first + 1);
+        let three = self.read_lane(table, keys, first + 2);
+        let four = self.read_lane(table, keys, first + 3);
         four_places(
             &[one.0, two.0, three.0, four.0],
             &[one.1, two.1, three.1, four.1],
@@ -204,21 +189,14 @@ impl<const W: usize> LaneFlows<W> {
     /// A step of each of four lanes, from one on and in order, and how many of them were busy
     /// before.
     #[inline]
-    fn step_each<const ONE: bool>(
-        &mut self,
-        table: &Table,
-        keys: &[u8],
-        scratch: &mut Scratch,
-        first: usize,
-    ) -> u32
-        requires one { ONE ≡ true → length table.now.roots ≡ 1 }
+    fn step_each(&mut self, table: &Table, keys: &[u8], scratch: &mut Scratch, first: usize) -> u32
         requires width { W ≤ 16 }
         requires first { first + AT_ONCE ≤ W }
         requires stands { StandsOver table.now keys.now self.old (length scratch.old) }
         ensures { StepsLanes table.now keys.now self.old scratch.old first AT_ONCE self.new
             scratch.new result }
     {
-        let places = self.places_from::<ONE, false>(table, keys, first);
+        let places = self.places_from(table, keys, first);
         let mut busy = 0;
         for k in 0..AT_ONCE {
             busy += self.step_lane(table, keys, scratch, first + k, places[k] as usize);
@@ -242,30 +220,10 @@ impl<const W: usize> LaneFlows<W> {
             ≡ drop (keys_in table.now keys.now) scratch.old }
         ensures stands { StandsOver table.now keys.now self.new (length scratch.new) }
     {
-        if table.tries() == 1 {
-            self.turn_of::<true>(table, keys, scratch)
-        } else {
-            self.turn_of::<false>(table, keys, scratch)
-        }
-    }
-
-    /// The turn over a table of one trie, or over any.
-    #[inline]
-    fn turn_of<const ONE: bool>(&mut self, table: &Table, keys: &[u8], scratch: &mut Scratch) -> u32
-        requires one { ONE ≡ true → length table.now.roots ≡ 1 }
-        requires lanes { IsLanes W }
-        requires stands { StandsOver table.now keys.now self.old (length scratch.old) }
-        ensures state { state_of table.now keys.now self.new scratch.new
-            ≡ flow_turn table.now keys.now W (state_of table.now keys.now self.old scratch.old) }
-        ensures busy { result ≡ busy_slots self.old }
-        ensures others { drop (keys_in table.now keys.now) scratch.new
-            ≡ drop (keys_in table.now keys.now) scratch.old }
-        ensures stands { StandsOver table.now keys.now self.new (length scratch.new) }
-    {
         let lanes = self.flights.as_slice().len();
         let mut busy = 0;
         for group in 0..lanes / AT_ONCE {
-            busy += self.step_each::<ONE>(table, keys, scratch, group * AT_ONCE);
+            busy += self.step_each(table, keys, scratch, group * AT_ONCE);
         }
         busy
     }

@@ -60,7 +60,7 @@ impl<const W: usize> LaneFlows<W> {
 
     /// A step of a busy lane, which takes the word at the place.
     #[inline]
-    fn note_lane<const ONE: bool>(
+    fn note_lane(
         &mut self,
         table: &Table,
         keys: &[u8],
@@ -68,7 +68,6 @@ impl<const W: usize> LaneFlows<W> {
         lane: usize,
         place: usize,
     )
-        requires one { ONE ≡ true → length table.now.roots ≡ 1 }
         requires width { W ≤ 16 }
         requires lane { lane < W }
         requires stands { StandsOver table.now keys.now self.old (length scratch.old) }
@@ -81,7 +80,7 @@ impl<const W: usize> LaneFlows<W> {
         stay_in(table);
         let flight = &mut self.flights[lane];
         let word = table.words()[place];
-        land_noted::<ONE>(scratch, flight, word);
+        land_noted(scratch, flight, word);
     }
 
     /// A step of an empty lane, which takes the next job, if one is left.
@@ -104,7 +103,7 @@ impl<const W: usize> LaneFlows<W> {
     /// A step of the lane, and how many lanes were busy before it: 1 or 0. A busy lane takes the
     /// word at the place.
     #[inline]
-    fn note_or_take<const ONE: bool>(
+    fn note_or_take(
         &mut self,
         table: &Table,
         keys: &[u8],
@@ -112,7 +111,6 @@ impl<const W: usize> LaneFlows<W> {
         lane: usize,
         place: usize,
     ) -> u32
-        requires one { ONE ≡ true → length table.now.roots ≡ 1 }
         requires width { W ≤ 16 }
         requires lane { lane < W }
         requires stands { StandsOver table.now keys.now self.old (length scratch.old) }
@@ -122,7 +120,7 @@ impl<const W: usize> LaneFlows<W> {
             result }
     {
         if self.is_busy(lane) {
-            self.note_lane::<ONE>(table, keys, scratch, lane, place);
+            self.note_lane(table, keys, scratch, lane, place);
             return 1;
         }
         self.take_job(table, keys, scratch, lane);
@@ -146,14 +144,7 @@ impl<const W: usize> LaneFlows<W> {
 
     /// A step of each of four busy lanes, from one on and in order.
     #[inline]
-    fn note_four<const ONE: bool>(
-        &mut self,
-        table: &Table,
-        keys: &[u8],
-        scratch: &mut Scratch,
-        first: usize,
-    )
-        requires one { ONE ≡ true → length table.now.roots ≡ 1 }
+    fn note_four(&mut self, table: &Table, keys: &[u8], scratch: &mut Scratch, first: usize)
         requires width { W ≤ 16 }
         requires first { first + AT_ONCE ≤ W }
         requires stands { StandsOver table.now keys.now self.old (length scratch.old) }
@@ -162,26 +153,19 @@ impl<const W: usize> LaneFlows<W> {
             scratch.new AT_ONCE }
     {
         stay_in(table);
-        let places = self.places_from::<ONE, true>(table, keys, first);
+        let places = self.places_from(table, keys, first);
         let words = words_at(table.words(), &places);
         go_on(&mut self.flights[first], words[0]);
         go_on(&mut self.flights[first + 1], words[1]);
         go_on(&mut self.flights[first + 2], words[2]);
         go_on(&mut self.flights[first + 3], words[3]);
-        note_each::<ONE>(scratch, &self.flights, first);
+        note_each(scratch, &self.flights, first);
     }
 
     /// A step of each of four lanes, from one on and in order, and how many of them were busy
     /// before.
     #[inline]
-    fn note_some<const ONE: bool>(
-        &mut self,
-        table: &Table,
-        keys: &[u8],
-        scratch: &mut Scratch,
-        first: usize,
-    ) -> u32
-        requires one { ONE ≡ true → length table.now.roots ≡ 1 }
+    fn note_some(&mut self, table: &Table, keys: &[u8], scratch: &mut Scratch, first: usize) -> u32
         requires width { W ≤ 16 }
         requires first { first + AT_ONCE ≤ W }
         requires stands { StandsOver table.now keys.now self.old (length scratch.old) }
@@ -193,10 +177,10 @@ impl<const W: usize> LaneFlows<W> {
             self.take_four(table, keys, scratch, first);
             return 0;
         }
-        let places = self.places_from::<ONE, false>(table, keys, first);
+        let places = self.places_from(table, keys, first);
         let mut busy = 0;
         for k in 0..AT_ONCE {
-            busy += self.note_or_take::<ONE>(table, keys, scratch, first + k, places[k] as usize);
+            busy += self.note_or_take(table, keys, scratch, first + k, places[k] as usize);
         }
         busy
     }
@@ -204,14 +188,7 @@ impl<const W: usize> LaneFlows<W> {
     /// A step of each of four lanes, from one on and in order, and how many of them were busy
     /// before. Mostly all four are, and then no lane asks again.
     #[inline]
-    fn note_group<const ONE: bool>(
-        &mut self,
-        table: &Table,
-        keys: &[u8],
-        scratch: &mut Scratch,
-        first: usize,
-    ) -> u32
-        requires one { ONE ≡ true → length table.now.roots ≡ 1 }
+    fn note_group(&mut self, table: &Table, keys: &[u8], scratch: &mut Scratch, first: usize) -> u32
         requires width { W ≤ 16 }
         requires first { first + AT_ONCE ≤ W }
         requires stands { StandsOver table.now keys.now self.old (length scratch.old) }
@@ -219,22 +196,16 @@ impl<const W: usize> LaneFlows<W> {
             scratch.new result }
     {
         if self.are_busy(first) {
-            self.note_four::<ONE>(table, keys, scratch, first);
+            self.note_four(table, keys, scratch, first);
             return AT_ONCE as u32;
         }
-        self.note_some::<ONE>(table, keys, scratch, first)
+        self.note_some(table, keys, scratch, first)
     }
 
     /// A step of each slot, in order, as [`LaneFlows::turn`] does it, and how many of them were
     /// busy before. The words to which walks come are noted, and no rows joined.
     #[inline]
-    pub(crate) fn turn_noting<const ONE: bool>(
-        &mut self,
-        table: &Table,
-        keys: &[u8],
-        scratch: &mut Scratch,
-    ) -> u32
-        requires one { ONE ≡ true → length table.now.roots ≡ 1 }
+    pub(crate) fn turn_noting(&mut self, table: &Table, keys: &[u8], scratch: &mut Scratch) -> u32
         requires lanes { IsLanes W }
         requires stands { StandsOver table.now keys.now self.old (length scratch.old) }
         ensures machine { IsAfterRun table.now keys.now self.old (range_with_len 0 W) self.new }
@@ -249,7 +220,7 @@ impl<const W: usize> LaneFlows<W> {
         let lanes = self.flights.as_slice().len();
         let mut busy = 0;
         for group in 0..lanes / AT_ONCE {
-            busy += self.note_group::<ONE>(table, keys, scratch, group * AT_ONCE);
+            busy += self.note_group(table, keys, scratch, group * AT_ONCE);
         }
         busy
     }

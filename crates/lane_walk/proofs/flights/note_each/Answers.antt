@@ -1,5 +1,5 @@
-use Rattle.std.proofs.Common.{◌≡◌, ℕ, ◌+◌, arith, eqb, lit<, length, subst}
-use Rattle.std.specs.Prelude.{not, slice_index_or}
+use Rattle.std.proofs.Common.{◌≡◌, ℕ, ◌+◌, arith, lit<, length, subst}
+use Rattle.std.specs.Prelude.{slice_index_or}
 use Rattle.lane_walk.specs.Turn.{HasRoom, no_one}
 use Rattle.lane_walk.proofs.Fours.{still}
 use Rattle.lane_walk.proofs.flights.note_each.Goals as goal
@@ -7,7 +7,7 @@ use Rattle.lane_walk.proofs.flights.note_each.Goals as goal
 pub note_word-requires : goal.note_word-requires
 note_word-requires g c =
     let here : c.args.first + 0 ≡ c.args.first = omega arith in
-    subst (λ (lane : ℕ). HasRoom (not (eqb g.row.ONE 0)) (slice_index_or c.args.flights.now lane no_one)
+    subst (λ (lane : ℕ). HasRoom (slice_index_or c.args.flights.now lane no_one)
     (length c.args.scratch.now)) here (c.requires.come 0 (lit< tt))
 
 pub note_word-requires-2 : goal.note_word-requires-2

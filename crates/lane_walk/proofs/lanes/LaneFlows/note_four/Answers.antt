@@ -27,7 +27,7 @@ note_each-requires-clause-come g c k h =
     c.places_from-places.ensures c.stay_in.ensures.stay c.stay_in.ensures.sound bytes in
     let goes = four_goes flights a c.words_at-words.result c.words.ensures c.words_at-words.ensures in
     four_room flights a c.words_at-words.result goes c.go_on.ensures c.go_on-2.ensures c.go_on-3.ensures
-    c.go_on-4.ensures c.requires.one c.stay_in.ensures.few k h
+    c.go_on-4.ensures c.stay_in.ensures.few k h
 
 pub returns : goal.returns
 returns g c =

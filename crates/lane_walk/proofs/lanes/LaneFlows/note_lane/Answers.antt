@@ -54,7 +54,7 @@ land_noted-requires-clause-room g c =
     let b = busy_lane c.self.inside.flights c.self.view_is c.requires.stands c.requires.lane c.self.told
     c.requires.busy no_one in
     let l = lands b.lent b.holds c.stay_in.ensures.stay c.stay_in.ensures.sound bytes c.requires.place in
-    room_of l.on_way c.requires.stands.fits.room c.stay_in.ensures.few c.requires.one
+    room_of l.on_way c.requires.stands.fits.room c.stay_in.ensures.few
 
 pub returns : goal.returns
 returns g c =

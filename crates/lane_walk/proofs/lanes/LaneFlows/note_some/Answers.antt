@@ -14,11 +14,8 @@ note_or_take-busy-requires g c =
     (c.places_from-places.ensures k c.loop-k-test.true) in (
       omega (arith, c.requires.width),
       (
-        c.requires.one,
-        (
-          c.requires.width,
-          (omega (arith, c.requires.first, c.loop-k-test.true), (c.loop-k.invariant.stands, place)),
-        ),
+        c.requires.width,
+        (omega (arith, c.requires.first, c.loop-k-test.true), (c.loop-k.invariant.stands, place)),
       ),
     )
 

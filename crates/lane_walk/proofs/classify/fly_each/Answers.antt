@@ -3,7 +3,7 @@ use Rattle.flow_core.specs.Machine.{is_done}
 use Rattle.lane_walk.proofs.Batches.{Flies, flies, turned_none, turned_more, taken_below, turns_few}
 use Rattle.lane_walk.proofs.Batches.{rounds_are, all_taken, noted_all, words_fit, steps_fit}
 use Rattle.lane_walk.proofs.Turns.{lanes_few, lanes_some}
-use Rattle.lane_walk.proofs.classify.fly_of.Goals as goal
+use Rattle.lane_walk.proofs.classify.fly_each.Goals as goal
 
 pub begin_noting-lanes-requires : goal.begin_noting-lanes-requires
 begin_noting-lanes-requires g c = (
@@ -23,7 +23,7 @@ done-requires g c = omega (arith, lanes_few c.requires.lanes)
 
 pub turn_noting-busy-requires : goal.turn_noting-busy-requires
 turn_noting-busy-requires g c =
-    (omega (arith, lanes_few c.requires.lanes), (c.requires.one, (c.requires.lanes, c.loop-lanes.invariant.stands)))
+    (omega (arith, lanes_few c.requires.lanes), (c.requires.lanes, c.loop-lanes.invariant.stands))
 
 pub loop-lanes-init : goal.loop-lanes-init
 loop-lanes-init g c = turned_none c.begin_noting-lanes.ensures.machine

@@ -5,7 +5,7 @@ use Rattle.flow_core.specs.declared.flight.Flight.{Flight}
 use Rattle.flow_core.specs.Machine.{Machine, state_of}
 use Rattle.lane_walk.specs.Turn.{held_in, is_busy, flow_turn, StepsLanes}
 use Rattle.lane_walk.proofs.Turns.{and_then, all_groups}
-use Rattle.lane_walk.proofs.lanes.LaneFlows.turn_of.Goals as goal
+use Rattle.lane_walk.proofs.lanes.LaneFlows.turn.Goals as goal
 
 pub loop-group-preserved : goal.loop-group-preserved
 loop-group-preserved g c =

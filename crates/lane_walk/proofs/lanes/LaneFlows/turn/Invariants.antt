@@ -1,7 +1,7 @@
 -- the lanes so far were stepped
 use Rattle.std.proofs.Common.{◌*◌}
 use Rattle.lane_walk.specs.Turn.{StepsLanes}
-use Rattle.lane_walk.proofs.lanes.LaneFlows.turn_of.Given as goal
+use Rattle.lane_walk.proofs.lanes.LaneFlows.turn.Given as goal
 
 abbrev pub invariant-loop-group : goal.invariant-loop-group
 invariant-loop-group g l =

@@ -3,7 +3,7 @@ use Rattle.std.proofs.Common.{◌-◌}
 use Rattle.flow_core.specs.Machine.{most_steps}
 use Rattle.lane_walk.specs.Turn.{AreNoted}
 use Rattle.lane_walk.proofs.Batches.{Turned}
-use Rattle.lane_walk.proofs.classify.fly_of.Given as goal
+use Rattle.lane_walk.proofs.classify.fly_each.Given as goal
 
 abbrev pub invariant-loop-lanes : goal.invariant-loop-lanes
 invariant-loop-lanes g l =
