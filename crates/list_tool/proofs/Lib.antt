@@ -2,7 +2,6 @@ pub mod Commented
 pub mod Runs
 pub mod TooLong
 pub mod Endings
-pub mod Turned
 pub mod Texts
 pub mod Asked
 pub mod Lines
