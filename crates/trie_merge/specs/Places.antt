@@ -67,8 +67,8 @@ pub record CanMergePlace (set : RuleSetView) (places : List ℕ) (j : ℕ) (budg
   pub states : AreStates set places j reached
   pub known : IsKnown set places j ahead
 
--- All that it gives: its first states are merged, as many as the budget has, and what the next place
--- has of each rule was looked up.
+-- All that it gives: its first states are merged, as many as the budget has, and what the next
+-- place has of each rule was looked up.
 pub record MergesPlace (set : RuleSetView) (places : List ℕ) (j : ℕ) (budget : Budget)
     (reached : Reached) (ahead : Option ColumnView) (merged : Merged) : Type 0 where
   pub states : (pairs : List (ℕ × ℕ)) → reached.target ≡ Parts pairs →
