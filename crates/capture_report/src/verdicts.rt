@@ -76,10 +76,8 @@ pub fn walk_keys<L: Ledger>(
         ≡ transitions_of_family family (table_of family form.now.tables) packets.now }
     ensures bound { result.transitions ≤ length packets.now * max_transitions }
     ensures steps { steps.new ≡ steps.old + result.transitions }
-    ensures len { length verdicts.new ≡ BATCH_VERDICTS }
-    ensures marks_len { length dashes.new ≡ BATCH_VERDICTS }
-    ensures keys { length keys.new ≡ length keys.old }
-    ensures rows { length scratch.new ≡ length scratch.old }
+    ensures len { (length verdicts.new ≡ BATCH_VERDICTS) × (length dashes.new ≡ BATCH_VERDICTS) }
+    ensures room { (length keys.new ≡ length keys.old) × (length scratch.new ≡ length scratch.old) }
 {
     let (table, categories) = (form.table(family), form.categories());
     let own = gather_keys(family, packets, most, keys);
