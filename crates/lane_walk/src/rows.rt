@@ -9,6 +9,20 @@ use flat_table::{Table, index_of};
 use flow_core::{Scratch, join_rows};
 use table_sizes::ROW_LEN;
 
+/// The joined row of the rows that the first words name, one for each trie.
+#[inline]
+fn joined_of(table: &Table, noted: &[u64; ROW_LEN]) -> [u64; ROW_LEN]
+    requires { (trie : ℕ) → trie < length table.now.roots →
+        index_of (slice_index noted.now trie) < length table.now.rows }
+    ensures { IsRowOf table.now noted.now (length table.now.roots) result }
+{
+    let mut row = [0; ROW_LEN];
+    for trie in 0..table.tries() {
+        join_rows(&mut row, table.row(index_of(noted[trie])));
+    }
+    row
+}
+
 /// A copy of the row.
 #[inline]
 fn copied(row: &[u64; ROW_LEN]) -> [u64; ROW_LEN]
@@ -18,23 +32,20 @@ fn copied(row: &[u64; ROW_LEN]) -> [u64; ROW_LEN]
     *row
 }
 
-/// The joined row of the rows that the first words name, one for each trie.
-#[inline]
-fn joined_of(table: &Table, noted: &[u64; ROW_LEN]) -> [u64; ROW_LEN]
-    requires { (trie : ℕ) → trie < length table.now.roots →
-        index_of (slice_index noted.now trie) < length table.now.rows }
-    ensures { IsRowOf table.now noted.now (length table.now.roots) result }
+/// The rows of [`join_noted`] over a table of one trie, where there is nothing to join.
+fn copy_noted(table: &Table, scratch: &mut Scratch, keys: usize)
+    requires one { length table.now.roots ≡ 1 }
+    requires keys { keys ≤ length scratch.old }
+    requires there { (k : ℕ) → k < keys →
+        index_of (slice_index (slice_index_or scratch.old k []) 0) < length table.now.rows }
+    ensures rows { AreRowsOf table.now scratch.old keys scratch.new }
+    ensures others { drop keys scratch.new ≡ drop keys scratch.old }
+    ensures len { length scratch.new ≡ length scratch.old }
 {
-    // With one trie there is nothing to join.
-    let tries = table.tries();
-    if tries == 1 {
-        return copied(table.row(index_of(noted[0])));
+    for k in 0..keys {
+        let row = copied(table.row(index_of(scratch.row(k)[0])));
+        scratch.put(k, &row);
     }
-    let mut row = [0; ROW_LEN];
-    for trie in 0..tries {
-        join_rows(&mut row, table.row(index_of(noted[trie])));
-    }
-    row
 }
 
 /// Makes the rows of the first keys the joined ones of the rows that the words noted in them name.
@@ -46,6 +57,10 @@ pub(crate) fn join_noted(table: &Table, scratch: &mut Scratch, keys: usize)
     ensures others { drop keys scratch.new ≡ drop keys scratch.old }
     ensures len { length scratch.new ≡ length scratch.old }
 {
+    if table.tries() == 1 {
+        copy_noted(table, scratch, keys);
+        return;
+    }
     for k in 0..keys {
         let row = joined_of(table, scratch.row(k));
         scratch.put(k, &row);

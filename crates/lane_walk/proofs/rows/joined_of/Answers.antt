@@ -1,6 +1,6 @@
 use Rattle.std.proofs.Common.{ℕ, List, sym, ap, ◌∙◌, [], arith, refl, get_or}
 use Rattle.std.proofs.lemmas.Option.{get_or_from_slice_get}
-use Rattle.lane_walk.proofs.Joining.{row_none, row_more, row_of_one}
+use Rattle.lane_walk.proofs.Joining.{row_none, row_more}
 use Rattle.lane_walk.proofs.rows.joined_of.Goals as goal
 
 pub loop-trie-init : goal.loop-trie-init
@@ -9,15 +9,8 @@ loop-trie-init c = row_none c.args.table.now c.args.noted.now _ refl
 pub loop-trie-preserved : goal.loop-trie-preserved
 loop-trie-preserved c =
     let all : List (List ℕ) = c.args.table.now.rows in
-    let number = c.index_of-in-loop-trie in
+    let number = c.index_of in
     row_more c.loop-trie.invariant
     (ap (λ (r : ℕ). get_or all r []) (sym number.ensures.value)
-    ∙ get_or_from_slice_get all number.result c.row-in-loop-trie.result.now [] c.row-in-loop-trie.ensures)
+    ∙ get_or_from_slice_get all number.result c.row.result.now [] c.row.ensures)
     c.join_rows.ensures
-
-pub returns-then-tries-eq1 : goal.returns-then-tries-eq1
-returns-then-tries-eq1 c =
-    let all : List (List ℕ) = c.args.table.now.rows in
-    row_of_one (omega arith) c.copied.ensures.len
-    (ap (λ (r : ℕ). get_or all r []) (sym c.index_of.ensures.value)
-    ∙ get_or_from_slice_get all c.index_of.result c.row.result.now [] c.row.ensures ∙ sym c.copied.ensures.same)
