@@ -234,10 +234,14 @@ def reached(chains, name):
 
 
 def idle_chains(chains):
-    """The names of the chains that decide nothing, nor lead to one that does: they only log, count and return."""
+    """The names of the chains that decide nothing, nor lead to one that does: they only log, count and return.
+
+    Where a rule leads isn't known if its target is no chain, as that of a map of verdicts that can't be read.
+    """
     callers, waiting = {}, []
     for chain in chains.values():
-        if any(rule.verdict in DECIDING for rule in chain.rules):
+        if any(rule.verdict in DECIDING or rule.verdict in (JUMP, GO) and rule.target not in chains
+               for rule in chain.rules):
             waiting.append(chain.name)
         for rule in chain.rules:
             callers.setdefault(rule.target, set()).add(chain.name)
