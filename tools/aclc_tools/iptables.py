@@ -70,6 +70,8 @@ class Tables:
         name, policy = found.groups()
         if name in self.tables[self.open]:
             raise CantSay(f"the chain {name} is declared twice")
+        if name in iptables_options.TARGETS:
+            raise CantSay(f"the chain {name} has the name of a target, and rules may lead to either")
         if name in BASE[self.open]:
             if policy not in POLICIES:
                 raise CantSay(f"the policy of {name} is {policy}, and neither ACCEPT nor DROP")

@@ -82,6 +82,10 @@ LISTS_REFUSED = [
      "leads back to chain a"),
     ("*filter\n:INPUT ACCEPT [0:0]\n-A INPUT -j a\n:a - [0:0]\nCOMMIT\n", 3, "the chain a isn't declared before it"),
     ("*filter\n:INPUT ACCEPT [0:0]\n:a - [0:0]\n-A a -j DORP\n-A INPUT -j ACCEPT\nCOMMIT\n", 4, "the target DORP"),
+    # iptables-restore takes it, and jumps to the chain.
+    ("*filter\n:INPUT ACCEPT [0:0]\n:LOG - [0:0]\n-A INPUT -j LOG\n-A LOG -j DROP\nCOMMIT\n", 3,
+     "the chain LOG has the name of a target"),
+    ("*filter\n:INPUT ACCEPT [0:0]\n:REJECT - [0:0]\n-A INPUT -j REJECT\nCOMMIT\n", 3, "the name of a target"),
 ]
 # Options of a rule that drops packets, those that it matches and those that it doesn't: source, ports and protocol.
 TAKEN = [
