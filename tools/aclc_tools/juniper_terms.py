@@ -161,10 +161,22 @@ def longest_match(parts):
         raise CantSay("the condition excepts addresses, and says none of which they are excepted")
     if {one for one, out in parts if out} & {one for one, out in parts if not out}:
         raise CantSay("a prefix stands with except and without it")
-    found, most = (), (1 << 128) - 1
-    for (low, high), out in sorted(parts, key=lambda it: it[0][0] - it[0][1]):
-        found = boxes.both(found, boxes.without(most, [(low, high)])) if out else boxes.union([*found, (low, high)])
-    return found
+    return boxes.union(by_longest(parts))
+
+
+def by_longest(parts):
+    """The intervals whose longest prefix isn't excepted. Prefixes lie in each other or apart."""
+    around, at, end = [], 0, ((1 << 128, 1 << 128), True)
+    for (low, high), out in [*sorted(parts, key=lambda it: (it[0][0], -it[0][1])), end]:
+        while around and around[-1][0] < low:
+            last, excepted_here = around.pop()
+            if not excepted_here and at <= last:
+                yield at, last
+            at = last + 1
+        if around and not around[-1][1] and at < low:
+            yield at, low - 1
+        around.append((high, out))
+        at = low
 
 
 def addresses(name, values, family, prefixes):

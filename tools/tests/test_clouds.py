@@ -1,12 +1,14 @@
 # SPDX-License-Identifier: BSD-3-Clause
 """Filters of Junos, and lists of AWS and Azure: shipped ones, what is refused, and damaged ones beside a walker."""
 import json
+import random
 import unittest
 
 import forms_aws
 import forms_azure
 import forms_juniper
 import routers
+from aclc_tools import juniper_terms
 
 SHIPPED = [("juniper", {"list": "from-world"}, "border.juniper", "border-world.rules"),
            ("juniper", {"list": "from-world6"}, "border.juniper", "border-world6.rules"),
@@ -191,6 +193,25 @@ class Clouds(routers.ListsCase):
         for text, lines in TAKEN:
             with self.subTest(text=text):
                 self.assertEqual(routers.deciding("juniper", text), lines)
+
+    def test_the_longest_prefix_decides(self):
+        """Compares with a search of each number, for prefixes over 256 of them."""
+        draw, apart = random.Random(3), []
+        for _ in range(300):
+            parts = {(base >> free << free, (base >> free << free) + (1 << free) - 1): draw.random() < 0.5
+                     for base, free in ((draw.randrange(256), draw.choice([0, 0, 1, 2, 3, 5, 8])) for _ in range(6))}
+            parts = {**parts, (0, 1): False}
+            near = [[(high - low, out) for (low, high), out in parts.items() if low <= it <= high] for it in range(256)]
+            found = juniper_terms.longest_match(list(parts.items()))
+            self.assertEqual([any(low <= it <= high for low, high in found) for it in range(256)],
+                             [bool(its) and not min(its)[1] for its in near])
+            apart += [one[1] + 1 < other[0] for one, other in zip(found, found[1:])]
+        self.assertTrue(all(apart) and len(apart) > 300)
+
+    def test_many_prefixes_are_one_condition(self):
+        text = "".join(PREFIX.format(f"10.0.{it >> 7}.{it << 1 & 255}/32") for it in range(5000))
+        rules = routers.converted("juniper", text + TERM.format("from source-prefix-list P"))
+        self.assertEqual(len({rule.source for rule in rules}), 5000)
 
     def test_lists_of_clouds_that_cannot_be_said_are_refused(self):
         for form, value, number, reason in CLOUDS:
