@@ -62,7 +62,7 @@ class Term:
     def take(self, number, text, words):
         """One line of the term."""
         if words[:1] == ["from"] and len(words) > 1:
-            values = words[2].strip("[] ").split() if words[2:3] and words[2][0] == "[" else words[2:3]
+            values = words[2].strip("[] ").split() if words[2:3] and words[2][:1] == "[" else words[2:3]
             rest = words[3:]
             for value in values or [None]:
                 self.conditions.setdefault(words[1], []).append((number, text, value, rest))

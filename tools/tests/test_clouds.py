@@ -36,6 +36,7 @@ JUNIPER = [
     (TERM.format("from protocol tcp") + TERM.format("from destination-port 8O"), 2, "8O is no number"),
     (TERM.format("from protocol tpc"), 1, "tpc is no number or name"),
     (TERM.format("from protocol"), 1, "the condition has no value"),
+    (TERM.format('from protocol ""'), 1, "is no number or name"),
     (TERM.format("form protocol tcp"), 1, "neither from nor then"),
     (TERM.format("from source-adress 10.0.0.0/8"), 1, "the condition source-adress isn't known"),
     (TERM.format("from source-address 10.0.0.0/33"), 1, "the length of its prefix"),
