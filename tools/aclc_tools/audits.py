@@ -49,14 +49,18 @@ class Covers:
     def __init__(self, listed):
         self.listed = listed
         self.ranked = sorted(listed.rules, key=lambda rule: (-rule.priority, rule.ordinal))
+        self.rank = {rule.ordinal: rank for rank, rule in enumerate(self.ranked)}
         self.pieces = {rule.ordinal: covers.piece_of(rule) for rule in self.ranked}
+        self.entries = {entry: place for place, entry in enumerate(listed.entries)}
+        self.near = {family: covers.Near([(rank, self.pieces[rule.ordinal]) for rank, rule in enumerate(self.ranked)
+                                          if rule.family == family]) for family in (4, 6)}
 
-    def candidates(self, family, rank, category, own):
-        """The entries other than its own whose rules rank above a place, with these rules' pieces."""
+    def candidates(self, family, rank, category, own, pieces):
+        """The entries other than its own whose rules rank above a place and are near, with these rules' pieces."""
         found = {}
-        for rule in self.ranked[:rank]:
+        for rule in (self.ranked[it] for it in self.near[family].places(pieces) if it < rank):
             entry = self.listed.entry(rule)
-            if rule.family == family and entry is not own and rule.categories >> category & 1:
+            if entry is not own and rule.categories >> category & 1:
                 found.setdefault(entry, []).append(self.pieces[rule.ordinal])
         return list(found.items())
 
@@ -69,10 +73,9 @@ class Covers:
 
     def groups(self, entry):
         """The rules of an entry, in groups that no other rule stands between, each with its place in the ranks."""
-        found, numbers = [], {rule.ordinal for rule in entry.rules}
-        for rank, rule in enumerate(self.ranked):
-            if rule.ordinal not in numbers:
-                continue
+        found = []
+        for rank in sorted(self.rank[rule.ordinal] for rule in entry.rules):
+            rule = self.ranked[rank]
             if found and found[-1][-1][0] == rank - 1 and found[-1][-1][1].family == rule.family:
                 found[-1].append((rank, rule))
             else:
@@ -95,7 +98,7 @@ class Covers:
             for category in range(answers.MOST_CATEGORIES) if self.listed.has_categories else [0]:
                 if not categories >> category & 1:
                     continue
-                some = self.cover(pieces, self.candidates(family, group[0][0], category, entry), entry)
+                some = self.cover(pieces, self.candidates(family, group[0][0], category, entry, pieces), entry)
                 if some is None:
                     leave(f"{entry.place()}: the program says that it decides nothing, and this tool finds a packet", 2)
                 found += [it for it in some if it not in found]
@@ -108,7 +111,7 @@ class Covers:
         found = []
         for box in entry.boxes:
             pieces = [piece for it in covers.of_box(box) for piece in covers.of_packets(it)]
-            some = self.cover(pieces, self.candidates(box.family, len(self.ranked), 0, entry), entry)
+            some = self.cover(pieces, self.candidates(box.family, len(self.ranked), 0, entry, pieces), entry)
             if some is None:
                 return [], "no packet comes to it"
             found += [it for it in some if it not in found]
@@ -118,7 +121,7 @@ class Covers:
 def row_of(entry, its_covers):
     """What is told of an entry that decides nothing."""
     found, why = its_covers.of_entry(entry)
-    found = sorted(found, key=its_covers.listed.entries.index)
+    found = sorted(found, key=its_covers.entries.get)
     if not why:
         places = " and ".join(it.place() for it in found)
         why = f"{places} match{'es' if len(found) == 1 else ' together'} all that it matches"

@@ -4,6 +4,7 @@
 What is left of a rule is a list of pieces: a bit for each protocol, and intervals of addresses and ports. Keys that no
 packet has are left out from the first.
 """
+from bisect import bisect_left
 from collections import namedtuple
 from functools import lru_cache
 from itertools import combinations, product
@@ -47,8 +48,49 @@ def of_packets(piece):
 
 def meets(one, other):
     """Whether two pieces have a key in common."""
-    return one.protocols & other.protocols and all(max(a[0], b[0]) <= min(a[1], b[1])
-                                                   for a, b in zip(one[1:], other[1:]))
+    if not one[0] & other[0]:
+        return False
+    for (low, high), (first, last) in zip(one[1:], other[1:]):
+        if low > last or first > high:
+            return False
+    return True
+
+
+def both(one, other):
+    """What two pieces have in common, which is something."""
+    sides = (((low if low > first else first), (high if high < last else last))
+             for (low, high), (first, last) in zip(one[1:], other[1:]))
+    return Piece(one[0] & other[0], *sides)
+
+
+class Networks:
+    """Pieces of rules, each with its place, by their network on one side."""
+
+    def __init__(self, side, pieces):
+        self.places = {}
+        for place, piece in pieces:
+            self.places.setdefault(getattr(piece, side), []).append(place)
+        self.networks = sorted(self.places)
+        self.sizes = sorted({high - low for low, high in self.networks})
+
+    def near(self, low, high):
+        """The places of the networks that hold an interval's least number, or begin within the interval."""
+        around = [(low & ~size, low | size) for size in self.sizes if low & size]
+        within = self.networks[bisect_left(self.networks, (low,)):bisect_left(self.networks, (high + 1,))]
+        return [place for it in (*around, *within) for place in self.places.get(it, ())]
+
+
+class Near:
+    """Pieces of rules, each with its place, so that those near others are found without a look at each."""
+
+    def __init__(self, pieces):
+        self.sides = Networks("source", pieces), Networks("destination", pieces)
+
+    def places(self, pieces):
+        """The places of those that may have a key in common with some pieces, in order."""
+        by_source, by_destination = self.sides
+        return sorted({place for it in pieces for place in
+                       min(by_source.near(*it.source), by_destination.near(*it.destination), key=len)})
 
 
 def without(piece, other):
@@ -93,15 +135,21 @@ def cover(pieces, candidates):
     for entry, its in near:
         fewer = left_by(left, its)
         if fewer != left:
-            needed.append((entry, its))
+            share = [both(piece, it) for piece in left for it in its if meets(piece, it)]
+            needed.append((entry, its, share))
             left = fewer
-    return None if left else thinned(pieces, needed)
+    return None if left else thinned(needed)
 
 
-def thinned(pieces, needed):
-    """The entries that can't be left out of some that match all of the pieces; the last ones are tried first."""
-    for it in reversed(needed):
-        fewer = [other for other in needed if other is not it]
-        if not left_by(pieces, [piece for _, its in fewer for piece in its]):
-            needed = fewer
-    return [entry for entry, _ in needed]
+def thinned(needed):
+    """The entries that can't be left out of some that match all together; the last ones are tried first.
+
+    Each has its share: what those before it leave and it matches. They all are still there when it is tried.
+    """
+    near, kept = Near([(place, it) for place, (_, its, _) in enumerate(needed) for it in its]), {}
+    for place in reversed(range(len(needed))):
+        entry, its, share = needed[place]
+        later = [it for other in near.places(share) if other in kept for it in kept[other][1]]
+        if left_by(share, later):
+            kept[place] = entry, its
+    return [kept[place][0] for place in sorted(kept)]

@@ -4,7 +4,7 @@ import json
 import unittest
 
 import drawn
-from aclc_tools import answers, covers, packet_words, parts, rule_file
+from aclc_tools import answers, any_list, covers, packet_words, parts, rule_file
 from aclc_tools.program import TOP
 from tool import BUILT, DATA, EXAMPLES, given, script, tool
 
@@ -222,6 +222,22 @@ class Parts(unittest.TestCase):
             sizes = [2 ** (72 - bin(it.protocol[1]).count("1") - it.source[1] - it.destination[1])
                      * count_of([it.source_ports, it.destination_ports]) for it in pieces]
             self.assertIn(sum(sizes), (0, 2 ** 104))
+
+    def covered_by(self, lines, *numbers):
+        """The lines that cover each of some lines which decide nothing."""
+        listed = any_list.of_rule_file("rules", drawn.text_of(lines).encode())
+        its_covers, entries = DEAD.Covers(listed), {it.number: it for it in listed.entries}
+        return {number: [it["line"] for it in DEAD.row_of(entries[number], its_covers)["covered_by"]]
+                for number in numbers}
+
+    def test_covers_are_found_without_the_program(self):
+        for lines, expected in DEAD_LINES:
+            self.assertEqual(self.covered_by(lines, *expected), expected)
+
+    def test_covers_among_many_lines_are_found(self):
+        hosts = [WEB.replace("10.0.0.0/8", f"10.0.{it >> 8}.{it & 255}/32") for it in range(2048)]
+        self.assertEqual(self.covered_by([*hosts, WEB.replace("/8", "/21")], 2049), {2049: list(range(1, 2049))})
+        self.assertEqual(self.covered_by([WEB, *hosts], *range(2, 2050)), {it: [1] for it in range(2, 2050)})
 
     def test_what_is_left_is_counted_exactly(self):
         size = lambda piece: bin(piece.protocols).count("1") * count_of(piece[1:])
