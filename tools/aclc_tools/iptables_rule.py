@@ -150,8 +150,6 @@ class Reading:
     def take_addresses(self, option, text):
         """Takes -s or -d with its addresses."""
         parts = [network(part, self.family) for part in text.split(",")]
-        if option.negated and len(parts) > 1:
-            raise Malformed(f"{option.name} has several addresses, and ! before it")
         if option.negated and parts[0] == (0, (1 << boxes.BITS[self.family]) - 1):
             raise Malformed(f"{option.name} excludes all addresses")
         self.match.keep(SIDES[option.name], parts, option.negated)

@@ -91,6 +91,8 @@ class Line:
             raise Malformed(f"{name} needs {count} more word{'s'[:count > 1]}, and the line ends")
         if match == "limit" and name == "--limit" and not is_rate(arguments[0]):
             raise Malformed(f"{arguments[0]} is no rate")
+        if match == "multiport" and self.protocol not in (6, 17, 33, 132, 136):
+            raise Malformed("the match multiport needs a protocol with ports before it, by -p")
         if negated and (name in known.NEVER_NEGATED or of < 0):
             raise Malformed(f"{name} can't be negated")
         if (of, name) in self.seen and name != "-m":
@@ -133,8 +135,9 @@ class Line:
                 raise Malformed(f"the match {name} stands twice")
             if number and self.protocol != number:
                 raise Malformed(f"the match {name} needs its protocol before it, by -p")
-            if name == "multiport" and self.protocol not in (6, 17, 33, 132, 136):
-                raise Malformed("the match multiport needs a protocol with ports, by -p")
+        addresses = [it for it in self.options if it.name in ("-s", "-d")]
+        if any("," in it.arguments[0] for it in addresses) and any(it.negated for it in addresses):
+            raise Malformed("one of -s and -d has several addresses, and one has ! before it")
 
 
 def is_rate(text):

@@ -53,6 +53,8 @@ RULES_REFUSED = [
     ("-p 256 -j DROP", "the protocol 256"), ("! -p all -j DROP", "no protocol at all"),
     ("-s 10.0.0.1,10.0.0.2 ! -s 1.1.1.1 -j DROP", "twice"),
     ("! -s 10.0.0.1,10.0.0.2 -j DROP", "several addresses"),
+    ("-s 10.0.0.1,10.0.0.2 ! -d 10.0.0.3 -j DROP", "several addresses"),
+    ("-m multiport --dports 80 -p tcp -j DROP", "needs a protocol with ports"),
     ("-m comment --comment \"no end -j DROP", "quotes don't end"),
     ("-m iprange --src-range 10.0.0.9-10.0.0.1 -j DROP", "no address lies"),
     ("-m conntrack --ctstate DNAT -j DROP", "addresses are changed"),
