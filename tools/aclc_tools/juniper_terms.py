@@ -184,6 +184,8 @@ def addresses(name, values, family, prefixes):
     def read(value, rest):
         """The prefixes of one value, and whether they are excepted."""
         out = excepted(value, rest)
+        if out and name in ("address", "prefix-list"):
+            raise CantSay(f"{name} with except is read in two ways: write source-{name} and destination-{name}")
         return [(one, out) for one in (listed(value, family, prefixes) if name in LISTS else [network(value, family)])]
     return longest_match(each(values, read))
 
