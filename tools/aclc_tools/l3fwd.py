@@ -11,6 +11,8 @@ from aclc_tools.lists import ACCEPT, DROP, PASS, CantSay, Chain, Rule
 from aclc_tools.rule_file import ip6_address
 
 COLUMNS = 9
+# What a route leads to is a number of 32 bits.
+MOST_ROUTE = 0xFFFFFFFF
 
 
 def number(text, most):
@@ -74,6 +76,8 @@ def read(place, text):
     (family, source), (other, destination) = network(words[0]), network(words[1])
     if family != other:
         raise CantSay("source and destination are of different families")
+    if text[0] == "R":
+        number(words[COLUMNS], MOST_ROUTE)
     box = boxes.Box(family, source, destination, ports(*words[2:5]), ports(*words[5:8]), protocols(words[8]))
     return Rule(place, text, [box], ACCEPT if text[0] == "R" else DROP, None, None)
 

@@ -15,6 +15,7 @@ SHIPPED = [("l3fwd", {}, "sample.l3fwd", "sample-l3fwd.rules")]
 REFUSED = [
     ("l3fwd", "@10.0.0.0/8 0.0.0.0/0 0:65535 0:65535 6/0xff\n", "9 words"),
     ("l3fwd", "@10.0.0.0/8 0.0.0.0/0 0 : 65535 0 : 65536 6/0xff\n", "65536 is above 65535"),
+    ("l3fwd", "R10.0.0.0/8 0.0.0.0/0 0 : 65535 0 : 65535 6/0xff one\n", "one is no number"),
     ("l3fwd", "@10.0.0.0/8 0.0.0.0/0 0 : 65535 0 : 65535 6/0xff pri=20 data=101\n", "pri=20 is an attribute of aclc's"),
     ("l3fwd", "R10.0.0.0/8 0.0.0.0/0 0 : 65535 0 : 65535 6/0xff data=101\n", "data=101 is an attribute of aclc's"),
 ]
