@@ -91,6 +91,18 @@ class Convert(unittest.TestCase):
             os.close(writing)
             self.assertEqual((done.returncode, done.stderr), (1, b""))
 
+    def test_a_rule_file_is_utf_8_whatever_the_terminal_has(self):
+        text = "*filter\n:INPUT DROP [0:0]\n-A INPUT -s 10.0.0.1 -m comment --comment \"\u2192\" -j ACCEPT\nCOMMIT\n"
+        done = subprocess.run([str(CONVERT), "iptables", "-"], input=text.encode(), stdout=subprocess.PIPE,
+                              stderr=subprocess.PIPE, env={**os.environ, "PYTHONIOENCODING": "ascii"})
+        self.assertEqual((done.returncode, done.stderr), (0, b""))
+        self.assertIn("--comment \"\u2192\" -j ACCEPT", done.stdout.decode())
+
+    def test_a_closed_output_is_no_traceback(self):
+        done = subprocess.run(["sh", "-c", '"$0" l3fwd sample.l3fwd >&-', str(CONVERT)], cwd=DATA,
+                              stderr=subprocess.PIPE)
+        self.assertEqual((done.returncode, done.stderr), (1, b"convert: standard output is closed\n"))
+
     def test_traces_with_what_a_packet_cannot_say(self):
         for text, reason in (("1 2 3 4 1", "has no ports"), ("1 2 3", "a line has"),
                              ("1 ::1 0 0 1", "different families"), ("x 2 3 4 6", "no number")):
