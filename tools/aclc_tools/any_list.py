@@ -15,16 +15,17 @@ from aclc_tools.printing import shown
 from aclc_tools.program import leave, note, read_file
 
 RULES = "rules"
-# What a line of each form looks like. A comment of a rule file looks like none of them.
+# What a line of each form looks like; a comment of a rule file looks like none. The blanks before a word are those of
+# its line alone, since else each of many empty lines would be searched to the last one.
 MARKS = {"nft": r'\A\s*\{(?s:.)*"nftables"', "iptables": r"(?m)^\*[a-z]+\s*$", "l3fwd": r"(?m)^R[0-9]",
-         "cisco": r"(?m)^\s*(ip access-list (extended|standard) |access-list \d+ (permit|deny|dynamic) )",
-         "asa": r"(?m)^access-list \S+ (line \d+ )?extended ", "iosxr": r"(?m)^\s*ipv4 access-list \S",
-         "nxos": r"(?m)^\s*ip access-list (?!(extended|standard|resequence|logging|role-based) )\S+\s*$",
+         "cisco": r"(?m)^[^\S\n]*(ip access-list (extended|standard) |access-list \d+ (permit|deny|dynamic) )",
+         "asa": r"(?m)^access-list \S+ (line \d+ )?extended ", "iosxr": r"(?m)^[^\S\n]*ipv4 access-list \S",
+         "nxos": r"(?m)^[^\S\n]*ip access-list (?!(extended|standard|resequence|logging|role-based) )\S+\s*$",
          "juniper": r"(?m)^set (.* )?firewall ",
          "aws": r'\A\s*[\[{](?s:.)*"(SecurityGroups|SecurityGroupRules|NetworkAcls)"',
          "azure": r'\A\s*[\[{](?s:.)*"(securityRules|destinationPortRange)"', RULES: r"(?m)^[ \t]*@"}
 # What several forms have in common, where nothing else tells which of them it is.
-COMMON = ((r"(?m)^\s*ipv6 access-list \S", ("cisco", "nxos", "iosxr")),)
+COMMON = ((r"(?m)^[^\S\n]*ipv6 access-list \S", ("cisco", "nxos", "iosxr")),)
 SAID = re.compile(r"# [a-z]+ (\d+)(?: \((\w+)\))?: (.*)")
 EVERYWHERE = {4: b"@0.0.0.0/0 0.0.0.0/0 0:65535 0:65535 0/0", 6: b"@::/0 ::/0 0:65535 0:65535 0/0"}
 STANDARD_INPUT = "-", "/dev/stdin", "/proc/self/fd/0", "/dev/fd/0"

@@ -88,6 +88,11 @@ class Forms(unittest.TestCase):
         self.assertEqual(any_list.forms_seen(both), ["iptables", "cisco"])
         self.assertEqual(any_list.forms_seen("10.0.0.0/8 any\n"), [])
 
+    def test_the_form_below_many_empty_lines_is_seen(self):
+        for line, forms in (("@10.0.0.0/8", ["rules"]), ("ip access-list A", ["nxos"]),
+                            ("ipv4 access-list A", ["iosxr"]), ("ip access-list standard A", ["cisco"])):
+            self.assertEqual(any_list.forms_seen("\n" * 50000 + f"\t{line}\n"), forms)
+
 
 class Typed(unittest.TestCase):
     def test_packets_are_read(self):
