@@ -61,10 +61,11 @@ def head_of(options, family, chain):
     """The first comment of a rule file."""
     data = {"line": f"the {'handle' if options.form == 'nft' else 'line'} that decides",
             "verdict": "1 where a rule accepts, 2 where it drops, 3 where it rejects"}
-    yield (f"# Made by aclc-lists {WORDS[options.form, family]} of {Path(options.file).name}, {chain}. "
-           f"Userdata is {data[options.data]}.")
+    made = (f"Made by aclc-lists {WORDS[options.form, family]} of {Path(options.file).name}, {chain}. "
+            f"Userdata is {data[options.data]}.")
+    yield f"# {printable(made)}"
     if assume.of(options).told():
-        yield f"# Assumed: {assume.of(options).told()}."
+        yield f"# {printable(f'Assumed: {assume.of(options).told()}.')}"
 
 
 def written(options, given, family, chain):

@@ -16,7 +16,7 @@ import draws_rulesets
 import list_programs
 import test_cisco
 import test_nftables
-from aclc_tools import list_program
+from aclc_tools import assume, forms, list_program
 from converting import DATA, decided, rules_of
 from tool import tool
 
@@ -226,6 +226,12 @@ class Asking(unittest.TestCase):
             "3 where it rejects.", "# Assumed: in=eth0.", "# :INPUT DROP [0:0]"])
         self.assertEqual([rule.userdata for rule in rules_of(printed)], [5])
         self.assertEqual(words, "iptables\n/dev/stdin\nINPUT\ndata=verdict\nassume=in=eth0\n")
+
+    def test_its_head_is_a_comment_whatever_the_file_is_called(self):
+        options = forms.options_of("iptables", "fw\n@0.0.0.0", assume=assume.parse("in=a\n@"))
+        self.assertEqual(list(list_program.head_of(options, 4, "INPUT\n@")), [
+            "# Made by aclc-lists iptables of fw @0.0.0.0, INPUT @. Userdata is the line that decides.",
+            "# Assumed: in=a @."])
 
     def test_it_is_handed_the_table_filter_in_its_own_lines(self):
         _, (_, text) = self.convert(RULES, "", 0)
