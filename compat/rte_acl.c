@@ -58,10 +58,10 @@ struct rte_acl_ctx {
     struct rte_acl_ctx *next;
     char name[RTE_ACL_NAMESIZE];
     int socket_id;
-    enum rte_acl_classify_alg alg;
+    atomic_int alg; /* of enum rte_acl_classify_alg */
     uint32_t rule_size;
     uint32_t max_rules;
-    uint32_t num_rules;
+    _Atomic uint32_t num_rules;
     uint8_t *rules;                /* num_rules times rule_size bytes */
     struct mark *marks;            /* HANDLES of them */
     _Atomic(struct built *) built; /* NULL where there is no table */
@@ -355,18 +355,30 @@ int rte_acl_set_ctx_classify(struct rte_acl_ctx *ctx, enum rte_acl_classify_alg 
     return answer;
 }
 
+/* The sizes of the table that there is, or 0. As a call of classify it marks a place meanwhile. */
+static void sizes_of(const struct rte_acl_ctx *ctx, uint32_t *num_categories, uint64_t *words)
+{
+    const unsigned place = mark_place(ctx);
+    const struct built *built = atomic_load(&ctx->built);
+
+    *num_categories = built != NULL ? built->num_categories : 0;
+    *words = built != NULL ? built->words : 0;
+    atomic_fetch_add(&ctx->marks[place].changes, 1);
+}
+
 void rte_acl_dump(const struct rte_acl_ctx *ctx)
 {
-    const struct built *built = ctx != NULL ? atomic_load(&ctx->built) : NULL;
+    uint32_t num_categories;
+    uint64_t words;
 
     if (ctx == NULL)
         return;
+    sizes_of(ctx, &num_categories, &words);
     printf("acl context <%s>@%p\n", ctx->name, (const void *)ctx);
-    printf("  socket_id=%d\n  alg=%d\n", ctx->socket_id, (int)ctx->alg);
+    printf("  socket_id=%d\n  alg=%d\n", ctx->socket_id, ctx->alg);
     printf("  max_rules=%" PRIu32 "\n  rule_size=%" PRIu32 "\n", ctx->max_rules, ctx->rule_size);
     printf("  num_rules=%" PRIu32 "\n", ctx->num_rules);
-    printf("  num_categories=%" PRIu32 "\n", built != NULL ? built->num_categories : 0);
-    printf("  words=%" PRIu64 "\n", built != NULL ? built->words : 0);
+    printf("  num_categories=%" PRIu32 "\n  words=%" PRIu64 "\n", num_categories, words);
 }
 
 void rte_acl_list_dump(void)

@@ -2,6 +2,8 @@
 /*
  * Builds a context anew, over and over, while threads classify by it: rebuilds [SECONDS [THREADS]]
  *
+ * One more thread dumps it, to nowhere.
+ *
  * It is written for rte_acl.h, and needs this repository's library: with DPDK's a call of classify
  * may not be under way. Every verdict says the build that it comes of. Those of one call have to be
  * of one build, which isn't older than that of the thread's call before, nor than the last build
@@ -15,6 +17,7 @@
 #include <stdlib.h>
 #include <string.h>
 #include <time.h>
+#include <unistd.h>
 
 #include <rte_acl.h>
 
@@ -85,11 +88,20 @@ static void *classify(void *unused)
     return NULL;
 }
 
+static void *dump(void *unused)
+{
+    (void)unused;
+    while (!ended)
+        rte_acl_list_dump();
+    return NULL;
+}
+
 int main(int count, char **words)
 {
     struct rte_acl_param param = {"rebuilt", SOCKET_ID_ANY, RTE_ACL_RULE_SZ(FIELDS), RULES};
     int seconds = count > 1 ? atoi(words[1]) : 5, threads = count > 2 ? atoi(words[2]) : 4;
-    pthread_t *all = calloc((size_t)threads, sizeof *all);
+    pthread_t *all = calloc((size_t)threads, sizeof *all), dumps;
+    FILE *line = fdopen(dup(STDOUT_FILENO), "w");
     time_t end = time(NULL) + seconds;
 
     for (int at = 0; at < PACKETS; at++) {
@@ -97,7 +109,8 @@ int main(int count, char **words)
         data[at] = packets[at];
     }
     ctx = rte_acl_create(&param);
-    if (all == NULL || ctx == NULL || build(0))
+    if (all == NULL || ctx == NULL || line == NULL || build(0) ||
+        freopen("/dev/null", "w", stdout) == NULL || pthread_create(&dumps, NULL, dump, NULL))
         return 2;
     for (int at = 0; at < threads; at++)
         if (pthread_create(&all[at], NULL, classify, NULL))
@@ -110,9 +123,11 @@ int main(int count, char **words)
     ended = true;
     for (int at = 0; at < threads; at++)
         pthread_join(all[at], NULL);
+    pthread_join(dumps, NULL);
     rte_acl_free(ctx);
     free(all);
     fprintf(stderr, "builds %u calls %llu\n", (unsigned)built, (unsigned long long)calls);
-    printf("threads %d wrong verdicts %llu\n", threads, (unsigned long long)wrong);
+    fprintf(line, "threads %d wrong verdicts %llu\n", threads, (unsigned long long)wrong);
+    fclose(line);
     return wrong != 0;
 }

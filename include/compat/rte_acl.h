@@ -10,9 +10,9 @@
  * Where DPDK's own headers are on the include path, rte_acl_osdep.h is theirs. A program without
  * DPDK takes the folder without_dpdk beside this file, which has the little that is needed.
  *
- * One thread at a time changes a context. Any number may classify by it, also while its rules are
- * changed and its table is built anew or reset, but not while it is freed. The list of contexts has
- * a lock.
+ * One thread at a time changes a context. Any number may classify by it and dump it, also while its
+ * rules are changed and its table is built anew or reset, but not while it is freed. The list of
+ * contexts has a lock, also while it is dumped.
  */
 #ifndef _RTE_ACL_H_
 #define _RTE_ACL_H_
