@@ -110,6 +110,16 @@ class Install(unittest.TestCase):
         self.assertEqual({path.name for path in self.prefix.rglob("*") if path.is_dir()}, {"lib", "pkgconfig"})
         self.assertEqual(self.run_script("include/install", "--uninstall", self.prefix)[0], 1)
 
+    def test_an_installation_that_stops_is_told_and_can_be_removed(self):
+        (self.prefix / "lib").mkdir(parents=True)
+        (self.prefix / "lib" / "pkgconfig").write_text("other")
+        (self.prefix / "share").mkdir()
+        (self.prefix / "share" / "man").write_text("other")
+        code, said = self.run_script("include/install", self.prefix)
+        self.assertEqual((code, "are below" in said), (1, False), said)
+        self.assertEqual(self.run_script("include/install", "--uninstall", self.prefix)[0], 0)
+        self.assertEqual(self.files(), {"lib/pkgconfig", "share/man"})
+
     def test_the_shared_library_exports_the_calls_of_its_header_alone(self):
         self.run_script("include/install", self.prefix)
         names = {f"{name}@@{'ACLC_1.1' if name in SINCE_1_1 else 'ACLC_1'}" for _, name, _ in calls()}
