@@ -2,6 +2,7 @@
 """include/install, packaging/libraries and aclc-dpdk, by a stand-in for the kit and a library that does nothing."""
 import os
 import re
+import shlex
 import shutil
 import subprocess
 import tempfile
@@ -140,6 +141,22 @@ class Install(unittest.TestCase):
                                   ("make", (), {}), ("make", ("-v",), {}), ("try", (), {})):
             code, said = self.run_script(f"packaging/{name}", *words, **more)
             self.assertEqual((code, said.count("\n")), (2, 1), said)
+
+    def test_a_folder_that_pkg_config_or_cmake_would_misread_is_refused(self):
+        for name in ("a&b", "a|b", "a#b", "a;b", "a$b", 'a"b', "a\\b", "a\nb", "a\n", "a\tb", "a ", "a&b/c"):
+            code, said = self.run_script("include/install", self.folder / "odd" / name)
+            self.assertEqual((code, "would read another folder" in said), (2, True), said)
+        self.assertFalse((self.folder / "odd").exists())
+
+    @unittest.skipUnless(shutil.which("pkg-config"), "there is no pkg-config")
+    def test_pkg_config_finds_a_folder_whose_name_has_blanks(self):
+        self.prefix = self.folder / "it's of two  words"
+        self.assertEqual(self.run_script("include/install", self.prefix)[0], 0)
+        _, flags = done(["pkg-config", "--cflags", "--libs", "aclc-compat"],
+                        env={**os.environ, "PKG_CONFIG_PATH": str(self.prefix / "lib" / "pkgconfig")})
+        for name in ("include", "include/aclc/compat", "include/aclc/compat/without_dpdk"):
+            self.assertIn(f"-I{self.prefix / name}", shlex.split(flags))
+        self.assertIn(f"-L{self.prefix / 'lib'}", shlex.split(flags))
 
     def test_a_release_of_dpdk_that_is_not_there_is_refused(self):
         self.run_script("include/install", self.prefix)
