@@ -111,6 +111,15 @@ class Install(unittest.TestCase):
         self.assertEqual({path.name for path in self.prefix.rglob("*") if path.is_dir()}, {"lib", "pkgconfig"})
         self.assertEqual(self.run_script("include/install", "--uninstall", self.prefix)[0], 1)
 
+    def test_the_file_of_another_stays(self):
+        for name in ("include/aclc.h", "share/man/man3/aclc.3"):
+            (self.prefix / name).parent.mkdir(parents=True)
+            (self.prefix / name).write_text("other")
+            code, said = self.run_script("include/install", self.prefix)
+            self.assertEqual((code, f"{name} already" in said, self.files()), (1, True, {name}), said)
+            shutil.rmtree(self.prefix)
+        self.assertEqual(self.run_script("include/install", self.prefix)[0], 0)
+
     def test_an_installation_that_stops_is_told_and_can_be_removed(self):
         (self.prefix / "lib").mkdir(parents=True)
         (self.prefix / "lib" / "pkgconfig").write_text("other")
