@@ -17,6 +17,8 @@ POLICIES = {"accept": ACCEPT, "drop": DROP}
 # Objects that say nothing of packets by themselves.
 SILENT = ("metainfo", "flowtable", "counter", "quota", "limit", "ct helper", "ct timeout", "ct expectation", "secmark",
           "synproxy")
+# Flags of a table to which packets come.
+AWAKE = ("owner", "persist")
 MOST_HANDLE = 0xFFFFFFFF
 
 
@@ -104,10 +106,18 @@ class Ruleset:
         return {key[2]: {**said, "changed": self.changes.get(key)} for key, said in self.sets.items()
                 if key[:2] == (family, table)}
 
+    def flags(self, key):
+        """The flags of a chain's table."""
+        flags = self.tables[key[:2]].get("flags", [])
+        return flags if isinstance(flags, list) else [flags]
+
     def dormant(self, key):
         """Whether a chain's table is asleep, so that no packet comes to it."""
-        flags = self.tables[key[:2]].get("flags", [])
-        return "dormant" in (flags if isinstance(flags, list) else [flags])
+        return "dormant" in self.flags(key)
+
+    def unknown_flags(self, key):
+        """Flags of a chain's table that don't tell whether it is asleep: nft 1.0.6 writes its name for each flag."""
+        return [it for it in self.flags(key) if it not in AWAKE or it == key[1]]
 
 
 def chosen(ruleset, options):
@@ -123,6 +133,10 @@ def chosen(ruleset, options):
         raise CantSay(f"a table of the family {fitting[0][0]} isn't of IPv4 or IPv6 alone")
     if ruleset.dormant(fitting[0]):
         raise CantSay(f"the table {' '.join(fitting[0][:2])} is dormant, so that no packet comes to it")
+    unknown = ruleset.unknown_flags(fitting[0])
+    if unknown:
+        raise CantSay(f"the table {' '.join(fitting[0][:2])} has the flag {plain(unknown[0])}, by which it may be"
+                      " dormant")
     return fitting[0]
 
 
