@@ -17,6 +17,8 @@ from aclc_tools.program import leave, note, program
 MOST_CATEGORIES = 16
 # The exit codes of a capture that is faulty, or that can't be read.
 OF_CAPTURE = (5, 7)
+# The nanoseconds before or after 1970 that a time may have which is told.
+MOST_TIME = 1 << 63
 
 
 class Refusal(Exception):
@@ -167,6 +169,14 @@ def classified(listed, copy, packets, categories, given):
     if not last or last.split()[1] != str(count):
         raise Refusal(0, f"{listed.name}: the program printed {count} lines, and last {last or 'no count of them'}")
     yield "packets", last
+
+
+def dated(record, number, what):
+    """The record of a number, if its time has a date that can be told; else its capture is refused."""
+    if not -MOST_TIME < record.time < MOST_TIME:
+        said = f"packet {number}: its time is before 1678 or after 2262, and {what} tells none such"
+        raise Refusal(OF_CAPTURE[0], said)
+    return record
 
 
 def categories_of(given, *listed):

@@ -14,8 +14,6 @@ from aclc_tools.program import leave
 KINDS = {"ip4": 4, "ip6": 6, "other": 0, "short": 1}
 FIRST = 100
 MOST_BUCKETS = 512
-# The nanoseconds before or after 1970 that a column has room for, and the exit code of a faulty capture.
-MOST_TIME, CAPTURE = 1 << 63, 5
 IP4_SIZE = 13
 # The columns of held packets in their order, and the type of each.
 COLUMNS = {"number": "I", "capture": "H", "time": "q", "kind": "B", "key": "I", "outcome": "I"}
@@ -120,9 +118,7 @@ class Held:
             return leave(f"{name}: record {number}: the program reads it, and this tool doesn't: {fault.kind}", 2)
         if record is None:
             return leave(f"{name}: record {number}: the program reads it, and this tool sees no more records", 2)
-        if not -MOST_TIME < record.time < MOST_TIME:
-            raise answers.Refusal(CAPTURE, f"packet {number}: its time is before 1678 or after 2262, and a report tells none such")
-        return record
+        return answers.dated(record, number, "a report")
 
     def sentence_of(self, reader):
         """What to do about the record that the program refuses, and its fault as this tool sees it."""

@@ -4,6 +4,7 @@ import csv
 import json
 import os
 import shutil
+import struct
 import subprocess
 import tempfile
 import unittest
@@ -327,6 +328,18 @@ class Hits(unittest.TestCase):
                               ("1970-01-01 00:19:40.000", 1)])
         text = tool("hits", "--over", "60s", OFFICE, names[0])[1]
         self.assertIn("1970-01-01 00:17:40.000        1  2: 1\n", text)
+
+    def test_times_without_a_date_have_no_interval(self):
+        """A pcapng file may count in seconds, and add some: its times reach far beyond all dates."""
+        content = blocks.write([keys.frame(packet_words.typed("icmp 192.168.1.5 -> 192.168.2.31"))])
+        for offset in (1 << 61, -1 << 61, 1 << 56):
+            interface = struct.pack("<HHIHHqI", 1, 0, 0, blocks.TIME_OFFSET, 8, offset, 0)
+            sent = self.room.write(".pcapng", content[:28] + blocks.block(blocks.INTERFACE, interface) + content[48:])
+            for form in ([], ["--json"], ["--csv"]):
+                code, told, said = tool("hits", *form, "--over", "1h", OFFICE, sent)
+                self.assertEqual((code, told), (2, ""))
+                self.assertIn("packet 1: its time is before 1678 or after 2262, and --over tells none such", said)
+            self.assertEqual(tool("hits", OFFICE, sent)[0], 0)
 
     def test_resolutions_of_pcapng(self):
         for options, seconds in ((b"", 5), (b"\x09\x00\x01\x00\x09\x00\x00\x00", 5_000_000_000),
