@@ -329,6 +329,19 @@ class Hits(unittest.TestCase):
         text = tool("hits", "--over", "60s", OFFICE, names[0])[1]
         self.assertIn("1970-01-01 00:17:40.000        1  2: 1\n", text)
 
+    def test_intervals_look_at_the_lines_that_decide_alone(self):
+        """A list of many lines and many intervals would else take their product."""
+        draw = drawn.chances(6)
+        lines = drawn.firewall(draw, 30)
+        listed = any_list.read_list(self.room.write(".list", drawn.as_iptables(lines).encode()), given())
+        counts = HITS.Counts(listed, given(over=1), self.room)
+        for number in (None, *(draw.randrange(len(listed.rules)) + 1 for _ in range(40))):
+            counts.hits[number] += 1
+        rows, unmatched = counts.rows(counts.hits)
+        self.assertEqual(counts.deciding(counts.hits), ([row for row in rows if row["hits"]], unmatched))
+        counts.listed.entries = None
+        self.assertEqual(counts.deciding(counts.hits), ([row for row in rows if row["hits"]], unmatched))
+
     def test_times_without_a_date_have_no_interval(self):
         """A pcapng file may count in seconds, and add some: its times reach far beyond all dates."""
         content = blocks.write([keys.frame(packet_words.typed("icmp 192.168.1.5 -> 192.168.2.31"))])
