@@ -7,7 +7,9 @@ import os
 import random
 import re
 import shutil
+import socket
 import struct
+import subprocess
 import sys
 import tempfile
 import unittest
@@ -193,6 +195,31 @@ class Refused(Room):
         code, _, said = tool("report", rules, "-o", rules)
         self.assertEqual((code, rules.read_bytes()), (2, OFFICE.read_bytes()))
         self.assertIn("one of the files", said)
+
+    def test_standard_input_is_not_written_over(self):
+        for words in (["-", PCAP], [OFFICE, "-"], ["-", "--old", OFFICE], [OFFICE, "--old", "-"]):
+            own = self.write("own", (PCAP if words[1] == "-" else OFFICE).read_bytes())
+            before = own.read_bytes()
+            with open(own, "rb") as file:
+                code, _, said = tool("report", *words, "-o", own, stdin=file)
+            self.assertEqual((code, "one of the files" in said, own.read_bytes()), (2, True, before), words)
+
+    def test_standard_output_may_be_a_socket_or_a_file_that_grows(self):
+        """Fails where standard output is opened by a name: a socket has none, and a file would be emptied."""
+        words = [sys.executable, str(TOP / "tools" / "report"), str(OFFICE), "-o", "-"]
+        whole = tool("report", OFFICE, "-o", "-")[1].rpartition("<script>")[2]
+        grown = self.write("grown", b"before\n")
+        with open(grown, "ab") as file:
+            subprocess.run(words, stdout=file, check=True)
+        text = grown.read_text()
+        self.assertEqual((text[:7], text.rpartition("<script>")[2]), ("before\n", whole))
+        near, far = socket.socketpair()
+        with near, far:
+            near.settimeout(60)
+            started = subprocess.Popen(words, stdout=far)
+            far.close()
+            read = b"".join(iter(lambda: near.recv(1 << 16), b""))
+        self.assertEqual((started.wait(), read.decode().rpartition("<script>")[2]), (0, whole))
 
     def test_a_page_that_cannot_be_written_is_told(self):
         code, _, said = tool("report", OFFICE, "-o", self.folder / "none" / "page.html")
