@@ -42,12 +42,26 @@ def numbers_of(lists, data):
     return [[known[answer] for answer in own] for own in answers_of]
 
 
+def answer_at(key, listed, copy, packet, given, room):
+    """What the program answers to the packet of a key: by the whole list, or where its table is too large by the rules
+    that match the key, cut down to it."""
+    try:
+        return next(answers.classified(listed, copy, packet, answers.MOST_CATEGORIES, given))
+    except answers.Refusal as refusal:
+        if refusal.code not in parts.TOO_LARGE:
+            raise
+    part = parts.of_key(key)
+    met = parts.clip(parts.Search(key.family, [listed.rules], None).rules, part, key.family)
+    narrow = room.write(".rules", parts.rule_file(key.family, part, met, False))
+    return next(answers.classified(listed, narrow, packet, answers.MOST_CATEGORIES, given))
+
+
 def decided(two, found, given, room):
     """The change at the least key of a family, and the key: the rules of both lists that decide its packet."""
     *_, category, key = found
     packet, numbers = room.write(".pcap", capture.write([keys.frame(key)])), []
     for listed, copy in zip(two.lists, two.copies):
-        kind, by_category = next(answers.classified(listed, copy, packet, answers.MOST_CATEGORIES, given))
+        kind, by_category = answer_at(key, listed, copy, packet, given, room)
         if kind != f"ip{key.family}":
             leave(f"the program prints {kind} of a packet that it compared as ip{key.family}", 2)
         numbers.append(by_category[category])

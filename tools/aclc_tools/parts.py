@@ -26,6 +26,12 @@ def of_rule(rule):
     return Part(rule.protocol, rule.source, rule.destination, rule.source_ports, rule.destination_ports)
 
 
+def of_key(key):
+    """The part that has one key alone."""
+    (source, destination, *ports), bits = key.numbers[:4], BITS[key.family]
+    return Part((key.protocol, 0xFF), (source, bits), (destination, bits), *((it, it) for it in ports))
+
+
 def both_protocols(one, other):
     """The protocol and mask of what two of them match, or None."""
     (value, mask), (other_value, other_mask) = one, other

@@ -165,6 +165,25 @@ class Same(Alone):
         self.assertEqual((told["same"], told["differ"]["ip4"]["old_line"], told["differ"]["ip4"]["new"]),
                          (False, 2, 102))
 
+    def test_a_difference_is_told_where_no_table_holds_a_list(self):
+        """What decides at the least packet is asked of the rules that match it, if the table of all is too large."""
+        draw, refused = drawn.chances(13), 0
+        for turn in range(12):
+            old = drawn.rule_lines(draw, 14, turn % 4 == 0, CHOICES)
+            names = [self.room.write(".rules", drawn.text_of(lines).encode())
+                     for lines in (old, drawn.edited(draw, old, CHOICES))]
+            few = given(max_words=FEW_WORDS // 2)
+            try:
+                list(answers.lines_of("classify", names[0], CAPTURE, *answers.words_more(few)))
+            except answers.Refusal as refusal:
+                refused += refusal.code == 4
+            whole, narrow = (tool("same", "--json", *names, *words) for words in ((), ("--max-words", few.max_words)))
+            self.assertNotIn("too large", narrow[2] if "not compared" not in narrow[2] else "")
+            if not json.loads(narrow[1])["not_compared"]:
+                self.assertEqual((narrow[0], json.loads(narrow[1])["differ"]),
+                                 (whole[0], json.loads(whole[1])["differ"]))
+        self.assertGreater(refused, 4)
+
     def test_keys_that_no_packet_has_make_no_difference(self):
         lists = [[WEB.replace("6/0xFF", f"{it}/0xFF") + " data=1" for it in kinds]
                  for kinds in ((6, 17, 132), (6, 17, 132, 1))]
