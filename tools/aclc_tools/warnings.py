@@ -1,10 +1,15 @@
 # SPDX-License-Identifier: BSD-3-Clause
 """What is lawful in a rule file and likely not what was meant."""
+import bisect
+import heapq
 import re
 
+from aclc_tools.boxes import prefixes
 from aclc_tools.printing import shown
 
 PORTED = (6, 17, 132)
+# Above so many rules of the same two networks they are found by their ports.
+FEW = 32
 
 
 def network_text(rule, network):
@@ -100,6 +105,37 @@ def covers(one, other):
             and mask & other_mask == mask and one.protocol[0] & mask == other.protocol[0] & mask)
 
 
+class Ports:
+    """Rules by the blocks of ports, 1, 2, 4 and so on long, that their range on a side is made of."""
+
+    def __init__(self, side, rules):
+        self.side, self.found = side, {}
+        for rule in rules:
+            for block in prefixes(*getattr(rule, side), 16):
+                self.found.setdefault(block, []).append(rule)
+
+    def around(self, rule):
+        """The rules whose range has the first port of this one's: a list for each block that has it."""
+        first = getattr(rule, self.side)[0]
+        blocks = [(first >> 16 - length << 16 - length, length) for length in range(17)]
+        return [self.found[block] for block in blocks if block in self.found]
+
+
+class Alike:
+    """Rules of the same two networks, in the order of their lines."""
+
+    def __init__(self):
+        self.rules, self.sides = [], None
+
+    def around(self, rule):
+        """Those whose ports may hold those of a rule, in the order of their lines."""
+        if len(self.rules) <= FEW:
+            return self.rules
+        self.sides = self.sides or [Ports(side, self.rules) for side in ("source_ports", "destination_ports")]
+        lists = min((side.around(rule) for side in self.sides), key=lambda found: sum(map(len, found)))
+        return heapq.merge(*lists, key=lambda it: it.line)
+
+
 class Networks:
     """Rules by the lengths of their two prefixes and by the prefixes, so that those around a rule are found."""
 
@@ -108,36 +144,42 @@ class Networks:
         for rule in rules:
             lengths = rule.family, rule.source[1], rule.destination[1]
             self.lengths.setdefault(rule.family, set()).add(lengths[1:])
-            self.found.setdefault((lengths, self.prefixes(rule, *lengths[1:])), []).append(rule)
+            self.found.setdefault((lengths, self.prefixes(rule, *lengths[1:])), Alike()).rules.append(rule)
 
     @staticmethod
     def prefixes(rule, source, destination):
         return rule.source[0] >> rule.bits - source, rule.destination[0] >> rule.bits - destination
 
     def around(self, rule):
-        """The rules whose two networks hold those of this one."""
+        """The rules whose two networks hold those of this one, those of the same networks together."""
         for source, destination in self.lengths.get(rule.family, ()):
             if source <= rule.source[1] and destination <= rule.destination[1]:
                 lengths = rule.family, source, destination
-                yield from self.found.get((lengths, self.prefixes(rule, source, destination)), ())
+                alike = self.found.get((lengths, self.prefixes(rule, source, destination)))
+                if alike:
+                    yield alike.around(rule)
 
 
 def dead(rules):
     """Each rule that never decides because one other rule matches all that it matches and wins, with that rule."""
     networks = Networks(rules)
     for rule in rules:
-        winners = [it for it in networks.around(rule) if outranks(it, rule) and covers(it, rule)]
-        if winners:
-            yield rule, min(winners, key=lambda it: it.line)
+        winners = [next((it for it in alike if outranks(it, rule) and covers(it, rule)), None)
+                   for alike in networks.around(rule)]
+        if any(winners):
+            yield rule, min(filter(None, winners), key=lambda it: it.line)
 
 
 def of_order(rules):
     """Warnings on priorities that turn the order of the lines."""
     given = [rule for rule in rules if "pri" in rule.given]
     unsaid = [rule for rule in rules if "pri" not in rule.given]
+    lines = [rule.line for rule in unsaid]
     for rule in given:
-        later = [it for it in unsaid if it.line > rule.line and it.priority > rule.priority]
-        if later:
+        # The next one has the greatest priority of those after it.
+        at = bisect.bisect(lines, rule.line)
+        later = unsaid[at:at + 1]
+        if later and later[0].priority > rule.priority:
             yield rule, "pri", f"Rules that say no priority are above this one, also those after it, as in line {later[0].line}."
             return
     rising = all(one.priority < other.priority for one, other in zip(given, given[1:]))

@@ -6,6 +6,7 @@ import tempfile
 import unittest
 from pathlib import Path
 
+import drawn
 import mistakes
 from aclc_tools import advice, capture, rule_file, warnings
 from aclc_tools.program import TOP, built_program, run
@@ -23,6 +24,13 @@ def judged(content):
     lines = rule_file.lines_of(content)
     return [(fault.line, fault.kind, advice.sentence(fault, lines[fault.line - 1]))
             for fault in rule_file.read_rules(content)[1]]
+
+
+def never_decides(rule, other):
+    """Whether the other rule matches all that a rule matches, and wins."""
+    within = all(low <= first and last <= high
+                 for (first, last), (low, high) in zip(rule.intervals(), other.intervals()))
+    return rule.family == other.family and within and warnings.outranks(other, rule) and warnings.covers(other, rule)
 
 
 class Check(unittest.TestCase):
@@ -85,6 +93,28 @@ class Check(unittest.TestCase):
                 self.assertIn(said, " ".join(it[3] for it in warnings.of_file(rules, rule_file.lines_of(content))))
         rules, _ = rule_file.read_rules((EXAMPLES / "mixed.rules").read_bytes())
         self.assertEqual(list(warnings.of_file(rules)), [])
+
+    def test_rules_that_never_decide_are_those_of_a_plain_reading(self):
+        """Also where many rules have the same networks, so that they are found by their ports."""
+        usual, draw, count = warnings.FEW, drawn.chances(21), 0
+        self.addCleanup(setattr, warnings, "FEW", usual)
+        for turn in range(90):
+            warnings.FEW = turn % 3 * 4
+            content = drawn.text_of(drawn.rule_lines(draw, 60, turn % 4 == 0, 2 + turn % 5)).encode()
+            rules, _ = rule_file.read_rules(content)
+            expected = [(rule.line, [it.line for it in rules if never_decides(rule, it)][:1]) for rule in rules]
+            told = [(rule.line, [winner.line]) for rule, winner in warnings.dead(rules)]
+            self.assertEqual(told, [it for it in expected if it[1]])
+            count += len(told)
+        self.assertGreater(count, 300)
+
+    def test_the_first_rule_below_one_after_it_is_told(self):
+        for text, told in (("pri=5,,pri=6", (1, "line 2.")), (",pri=5,pri=6", None), (",pri=6,,pri=5,", (2, "line 3.")),
+                           ("pri=536870911,,pri=1,,", (3, "line 4.")), ("pri=5", None)):
+            content = "".join(f"@10.0.0.0/8 0.0.0.0/0 0:65535 80:80 6/0xFF {it}\n" for it in text.split(","))
+            rules, _ = rule_file.read_rules(content.encode())
+            found = [(it.line, said[-7:]) for it, _, said in warnings.of_order(rules) if "say no priority" in said]
+            self.assertEqual(found, [told] if told else [], text)
 
     def test_control_characters_and_other_bytes_are_escaped(self):
         rules = self.write("\x1b.rules",
