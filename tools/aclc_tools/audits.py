@@ -52,8 +52,18 @@ class Covers:
         self.rank = {rule.ordinal: rank for rank, rule in enumerate(self.ranked)}
         self.pieces = {rule.ordinal: covers.piece_of(rule) for rule in self.ranked}
         self.entries = {entry: place for place, entry in enumerate(listed.entries)}
-        self.near = {family: covers.Near([(rank, self.pieces[rule.ordinal]) for rank, rule in enumerate(self.ranked)
+        kept = self.without_repeats()
+        self.near = {family: covers.Near([(rank, self.pieces[rule.ordinal]) for rank, rule in kept
                                           if rule.family == family]) for family in (4, 6)}
+
+    def without_repeats(self):
+        """The rules that may be told as covers, each with its rank: of those of a rule file that match the same, in
+        the same categories, the first one is told before the others. Entries of other lists have several rules."""
+        kept = {}
+        for rank, rule in enumerate(self.ranked):
+            what = rank if self.listed.chains else (rule.family, self.pieces[rule.ordinal], rule.categories)
+            kept.setdefault(what, (rank, rule))
+        return kept.values()
 
     def candidates(self, family, rank, category, own, pieces):
         """The entries other than its own whose rules rank above a place and are near, with these rules' pieces."""

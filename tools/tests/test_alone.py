@@ -24,6 +24,8 @@ DEAD_LINES = [([WEB, ANY], {}), ([ANY, WEB], {2: [1]}), ([WEB, ANY + " pri=53687
               ([WEB.replace("6/0xFF", f"{it}/0xFF") for it in (6, 17, 132)] + [WEB.replace("6/0xFF", "0/0")],
                {4: [1, 2, 3]}),
               ([WEB.replace("10.0.0.0/8", f"10.{it}.0.0/10") for it in (0, 64, 128, 192)] + [WEB], {5: [1, 2, 3, 4]}),
+              ([WEB] * 3, {2: [1], 3: [1]}), ([WEB, WEB + " pri=536870911", WEB], {1: [2], 3: [2]}),
+              ([WEB + " cat=1", WEB + " cat=3", WEB + " cat=2", WEB + " cat=2"], {3: [2], 4: [2]}),
               ([WEB, "# a comment", "@::/0 ::/0 0:65535 0:65535 0/0", "@::1/128 ::/0 0:65535 0:65535 0/0"], {4: [3]}),
               ([], {})]
 FIREWALL = [("accept", "tcp", 80, ("10.0.0.0", 8), ("any", None)), ("drop", "tcp", None, ("any", None), ("any", None)),
