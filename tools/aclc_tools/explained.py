@@ -6,6 +6,8 @@ from aclc_tools import answers, capture, keys, packet_words, walks
 from aclc_tools.program import leave
 
 NOTHING = "no rule matches"
+# No number of a packet has more, and Python reads no number of thousands.
+MOST_DIGITS = 20
 # What a user names, a packet's frame with its link type, and its key, or why it has none.
 Asked = collections.namedtuple("Asked", "name link frame key kind")
 
@@ -13,7 +15,7 @@ Asked = collections.namedtuple("Asked", "name link frame key kind")
 def asked(name, room):
     """The packet that a word names."""
     file, sign, number = name.rpartition("#")
-    if sign and number.isascii() and number.isdigit():
+    if sign and number.isascii() and number.isdigit() and len(number) <= MOST_DIGITS:
         return recorded(name, file, int(number), room)
     try:
         key = packet_words.typed(name)

@@ -43,7 +43,8 @@ SERVICES = {"domain": 53, "http": 80, "https": 443, "imaps": 993, "kerberos": 88
 def number_of(text, tables):
     """The number of a protocol by its number, or by its name in one of the tables, or None."""
     if text.isascii() and text.isdigit():
-        return int(text) if int(text) < 256 else None
+        digits = text.lstrip("0") or "0"
+        return int(digits) if len(digits) < 4 and int(digits) < 256 else None
     return next((table[text.lower()] for table in tables if text.lower() in table), None)
 
 

@@ -32,7 +32,7 @@ def end_words(address, port):
 
 def end_of(text):
     """The address and the port that are typed, the port None where there is none."""
-    found = re.fullmatch(r"\[([^\]]*)\](?::([0-9]+))?|([0-9.]+)(?::([0-9]+))?|([0-9A-Fa-f:.]*:[0-9A-Fa-f:.]*)", text)
+    found = re.fullmatch(r"\[([^\]%]*)\](?::([0-9]+))?|([0-9.]+)(?::([0-9]+))?|([0-9A-Fa-f:.]*:[0-9A-Fa-f:.]*)", text)
     if not found:
         raise NoPacket(f"{text} is no address: write 10.0.0.5:4000, or in IPv6 [2001:db8::1]:4000")
     address = found.group(1) or found.group(3) or found.group(5) or ""

@@ -24,6 +24,7 @@ TYPED = [("tcp 10.0.0.5:4000 -> 10.1.0.1:443", "tcp 10.0.0.5:4000 -> 10.1.0.1:44
          ("icmp 10.0.0.1->10.0.0.2", "icmp 10.0.0.1 -> 10.0.0.2"),
          ("47 1.2.3.4 -> 5.6.7.8", "47 1.2.3.4 -> 5.6.7.8"), ("gre 1.2.3.4 -> 5.6.7.8", "47 1.2.3.4 -> 5.6.7.8"),
          ("6 1.2.3.4:1 -> 5.6.7.8:2", "tcp 1.2.3.4:1 -> 5.6.7.8:2"), ("icmp ::1 -> ::2", "icmpv6 ::1 -> ::2"),
+         ("0" * 5000 + "47 ::1 -> ::2", "47 ::1 -> ::2"),
          ("1 ::1 -> ::2", "1 ::1 -> ::2"),
          ("tcp [2001:db8::1]:4000 -> [2001:db8::2]:443", "tcp [2001:db8::1]:4000 -> [2001:db8::2]:443"),
          ("0600000000c0a8010000000050", "tcp 0.0.0.0:0 -> 192.168.1.0:80"), ("00" * 37, "0 :: -> ::")]
@@ -37,12 +38,14 @@ NO_PACKETS = [("tcp 10.0.0.5:4000 -> 10.0.0.1.2:1", "is no address"),
               ("", "in quotes"),
               ("256 1.2.3.4 -> 2.3.4.5", "is no protocol"), ("0100000000c0a8010000000050", "no packet has this key"),
               ("06" * 12, "has 24"),
-              ("tcp 1.2.3.4:1 > 1.2.3.4:1", "in quotes"), ("tcp fe80::1%eth0 -> ::1", "is no address")]
+              ("tcp 1.2.3.4:1 > 1.2.3.4:1", "in quotes"), ("tcp fe80::1%eth0 -> ::1", "is no address"),
+              ("tcp [fe80::1%1]:4000 -> [::1]:443", "is no address"), ("6" * 5000 + " ::1 -> ::2", "is no protocol")]
 # Runs that end with exit code 2: the tool, its words, and a part of the message.
 REFUSED = [("explain", [OFFICE, "tcp"], "explain: tcp: it is no packet"),
            ("explain", [OFFICE, f"{CAPTURE}#4"], "it has no record 4"),
            ("explain", [OFFICE, f"{CAPTURE}#0"], "it has no record 0"),
            ("explain", [OFFICE, "none.pcap#1"], "none.pcap: No such file"),
+           ("explain", [OFFICE, f"{CAPTURE}#" + "1" * 5000], "it is no packet"),
            ("explain", [OFFICE, f"{OFFICE}#1"], "record 0: magic"),
            ("explain", ["none", "00" * 13], "none: No such file"),
            ("explain", [CAPTURE, "00" * 13], "this is a capture"),
