@@ -9,6 +9,7 @@ from collections import namedtuple
 from functools import lru_cache
 from itertools import combinations, product
 
+from aclc_tools.boxes import prefixes
 from aclc_tools.keys import WITH_PORTS
 
 Piece = namedtuple("Piece", "protocols source destination source_ports destination_ports")
@@ -80,17 +81,34 @@ class Networks:
         return [place for it in (*around, *within) for place in self.places.get(it, ())]
 
 
+class Ranges:
+    """Pieces of rules, each with its place, by their ports on one side, in blocks 1, 2, 4 and so on long."""
+
+    def __init__(self, side, pieces):
+        self.places = {}
+        for place, piece in pieces:
+            for block in prefixes(*getattr(piece, side), 16):
+                self.places.setdefault(block, []).append(place)
+        self.starts = sorted((getattr(piece, side)[0], place) for place, piece in pieces)
+
+    def near(self, low, high):
+        """The places of the ranges that hold an interval's least number, or begin within the interval."""
+        around = [self.places.get((low >> free << free, 16 - free), ()) for free in range(17)]
+        within = self.starts[bisect_left(self.starts, (low + 1,)):bisect_left(self.starts, (high + 1,))]
+        return [place for it in around for place in it] + [place for _, place in within]
+
+
 class Near:
     """Pieces of rules, each with its place, so that those near others are found without a look at each."""
 
     def __init__(self, pieces):
-        self.sides = Networks("source", pieces), Networks("destination", pieces)
+        self.sides = [Networks(side, pieces) for side in ("source", "destination")]
+        self.sides += [Ranges(side, pieces) for side in ("source_ports", "destination_ports")]
 
     def places(self, pieces):
         """The places of those that may have a key in common with some pieces, in order."""
-        by_source, by_destination = self.sides
         return sorted({place for it in pieces for place in
-                       min(by_source.near(*it.source), by_destination.near(*it.destination), key=len)})
+                       min((side.near(*interval) for side, interval in zip(self.sides, it[1:])), key=len)})
 
 
 def without(piece, other):

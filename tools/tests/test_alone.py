@@ -259,6 +259,21 @@ class Parts(unittest.TestCase):
         hosts = [WEB.replace("10.0.0.0/8", f"10.0.{it >> 8}.{it & 255}/32") for it in range(2048)]
         self.assertEqual(self.covered_by([*hosts, WEB.replace("/8", "/21")], 2049), {2049: list(range(1, 2049))})
         self.assertEqual(self.covered_by([WEB, *hosts], *range(2, 2050)), {it: [1] for it in range(2, 2050)})
+        ports = [WEB.replace("80:80", f"{it}:{it}") for it in range(2048)]
+        self.assertEqual(self.covered_by([*ports, WEB.replace("80:80", "0:2047")], 2049), {2049: list(range(1, 2049))})
+
+    def test_pieces_near_others_are_all_that_meet_them(self):
+        draw, count = drawn.chances(15), 0
+        for _ in range(60):
+            lines = drawn.rule_lines(draw, 40)
+            rules = [it for it in rule_file.read_rules(drawn.text_of(lines).encode())[0] if it.family == 4]
+            pieces = list(enumerate(map(covers.piece_of, rules)))
+            near = covers.Near(pieces)
+            for _, one in pieces:
+                met = {place for place, other in pieces if covers.meets(one, other)}
+                self.assertLessEqual(met, set(near.places([one])))
+                count += len(met) < len(near.places([one])) < len(pieces)
+        self.assertGreater(count, 20)
 
     def test_what_is_left_is_counted_exactly(self):
         size = lambda piece: bin(piece.protocols).count("1") * count_of(piece[1:])
