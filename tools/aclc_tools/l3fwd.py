@@ -13,6 +13,8 @@ from aclc_tools.rule_file import ip6_address
 COLUMNS = 9
 # What a route leads to is a number of 32 bits.
 MOST_ROUTE = 0xFFFFFFFF
+# No number that a list may have is longer, and Python reads none of thousands of digits.
+MOST_DIGITS = 40
 
 
 def number(text, most):
@@ -22,7 +24,7 @@ def number(text, most):
     elif re.fullmatch(r"0[0-7]*", text):
         value = int(text, 8)
     elif re.fullmatch(r"[1-9][0-9]*", text):
-        value = int(text)
+        value = int(text) if len(text) <= MOST_DIGITS else most + 1
     else:
         raise CantSay(f"{text or 'nothing'} is no number")
     if value > most:
