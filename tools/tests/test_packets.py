@@ -332,6 +332,15 @@ class Hits(unittest.TestCase):
         text = tool("hits", "--over", "60s", OFFICE, names[0])[1]
         self.assertIn("1970-01-01 00:17:40.000        1  2: 1\n", text)
 
+    def test_intervals_begin_with_the_first_packet_of_any_kind(self):
+        frame = keys.frame(packet_words.typed("udp 192.168.1.5:1 -> 192.168.2.31:1234"))
+        other = bytes(12) + b"\x08\x06" + bytes(28)
+        sent = self.room.write(".pcap", capture.write([]) + b"".join(
+            drawn.record(at, 0, it) for at, it in ((1000, other), (1030, frame), (1070, frame), (1071, other))))
+        code, told, _ = tool("hits", "--json", "--over", "60s", OFFICE, sent)
+        self.assertEqual((code, [(it["begins"], it["rules"][0]["hits"]) for it in json.loads(told)["intervals"]]),
+                         (0, [("1970-01-01 00:16:40.000", 1), ("1970-01-01 00:17:40.000", 1)]))
+
     def test_intervals_look_at_the_lines_that_decide_alone(self):
         """A list of many lines and many intervals would else take their product."""
         draw = drawn.chances(6)
