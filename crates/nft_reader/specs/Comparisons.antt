@@ -1,7 +1,9 @@
 -- What a rule compares: each comparison says of packets that they lie in one of some boxes, or
 -- after `!=` in none. A rule catches the packets that all of its comparisons are true of.
-use Rattle.std.specs.Prelude.{Bool, List, fold}
+use Rattle.std.specs.Prelude.{ℕ, ◌==◌, Bool, not, ◌&&◌, List, fold}
+use Rattle.std.specs.List.{list_any}
 use Rattle.field_defs.specs.declared.field.Family.{Family}
+use Rattle.list_chains.specs.declared.span.Span.{Span}
 use Rattle.iptables_reader.specs.declared.packets.Packets.{Packets}
 use Rattle.iptables_reader.specs.Packets.{CaughtBoxes, all_caught, with_boxes}
 
@@ -9,6 +11,19 @@ use Rattle.iptables_reader.specs.Packets.{CaughtBoxes, all_caught, with_boxes}
 pub record ComparedBoxes : Type 0 where
   pub negated : Bool
   pub boxes : List Packets
+
+-- a span of protocols is neither that of all nor that of one alone
+abbrev pub is_other : ℕ → Span → Bool
+is_other number span =
+    not (span.low == 0 && span.high == 255) && not (span.low == number && span.high == number)
+
+-- the protocols of one of some boxes are so
+abbrev pub has_other : ℕ → List Packets → Bool
+has_other number boxes = list_any (λ packets. is_other number packets.protocol) boxes
+
+-- a comparison names protocols, of which one isn't this one
+abbrev pub names_other : ℕ → ComparedBoxes → Bool
+names_other number comparison = not comparison.negated && has_other number comparison.boxes
 
 -- those of some packets that a comparison is true of
 abbrev pub narrowed : CaughtBoxes → ComparedBoxes → CaughtBoxes

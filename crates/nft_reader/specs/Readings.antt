@@ -5,6 +5,7 @@ use Rattle.std.specs.Prelude.{ℕ, ◌==◌, Bool, true, false, ◌||◌, is_som
 use Rattle.std.specs.Prelude.{List, [], ◌∷◌, ◌++◌, Option, Some, None, option_and_then}
 use Rattle.std.specs.Prelude.{Result, Ok, Err}
 use Rattle.std.specs.Borrow.{Bor}
+use Rattle.std.specs.List.{list_any}
 use Rattle.std.specs.Str.{bytes_eq}
 use Rattle.json.specs.Json.{Json}
 use Rattle.json.specs.Find.{get}
@@ -27,7 +28,7 @@ use Rattle.nft_reader.specs.Assumed.{interface_met, state_met, state_values}
 use Rattle.nft_reader.specs.Boxes.{part_boxes}
 use Rattle.nft_reader.specs.Compared.{MatchSides, family_met, is_negated, is_of, is_turned}
 use Rattle.nft_reader.specs.Compared.{operator_of, sides_of}
-use Rattle.nft_reader.specs.Comparisons.{ComparedBoxes}
+use Rattle.nft_reader.specs.Comparisons.{ComparedBoxes, names_other}
 use Rattle.nft_reader.specs.Keys.{concat_of, elements_boxes, protocol_packets}
 use Rattle.nft_reader.specs.Known.{Known}
 use Rattle.nft_reader.specs.Maps.{looked_up}
@@ -197,6 +198,16 @@ with_match known said reading = with_compared known said reading (together_in sa
 abbrev pub decided : Verdict → ReadRule → ReadRule
 decided says reading = with_act (act.Decide says) reading
 
+-- a comparison of the rule names protocols, of which one isn't TCP
+abbrev pub names_others : ReadRule → Bool
+names_others reading = list_any (names_other 6) reading.compared
+
+-- Packets of TCP alone. To a set of protocols nft adds no comparison with TCP, and the kernel drops
+-- what is of the others: a rule that names others isn't said.
+abbrev pub of_reset : Family → ReadRule → ReadRule
+of_reset family reading =
+    if names_others reading then with_cause kind.CantSay reading else of_protocol family 6 reading
+
 -- An answer to the sender by its type: a reset of TCP is one for packets of TCP alone, and a
 -- message of ICMP one for those of its family, although the list doesn't show these comparisons.
 abbrev pub rejected_by : Family → ReadRule → Option (List ℕ) → Result ReadRule RuleKind
@@ -208,7 +219,7 @@ rejected_by family reading (Some type) =
     else (if bytes_eq type (codes "icmpv6")
     then Ok (decided verdict.Reject (of_truth (is_of family false) reading))
     else (if bytes_eq type (codes "tcp reset")
-    then Ok (decided verdict.Reject (of_protocol family 6 reading)) else Err kind.BadStatement)))
+    then Ok (decided verdict.Reject (of_reset family reading)) else Err kind.BadStatement)))
 
 -- the text of a type, if there is one
 abbrev pub text_of : Option (Bor (List ℕ)) → Option (List ℕ)

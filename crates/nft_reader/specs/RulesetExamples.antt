@@ -238,6 +238,16 @@ accepts = with_rules (rule 7 Decide everything ∷ []) []
 abbrev unsaid_by : RuleKind → Result (List ListedChain) ObjectFault
 unsaid_by why = with_rules (unsaid ∷ []) (record { handle = 7; kind = why } ∷ [])
 
+-- meta l4proto { tcp, udp } reject with tcp reset, by which the kernel drops packets of UDP too
+a_reset_of_several : said
+    (codes "{\"match\": {\"op\": \"==\", \"left\": {\"meta\": {\"key\": \"l4proto\"}}, "
+    ++ codes "\"right\": {\"set\": [6, 17]}}}, {\"reject\": {\"type\": \"tcp reset\"}}")
+    ≡ with_rules (rule 7 nowhere (tcp ∷ any ∷ any ∷ ports ∷ ports ∷ [])
+    ∷ rule 7 nowhere ((17 to 17) ∷ any ∷ any ∷ ports ∷ ports ∷ []) ∷ [])
+    (record { handle = 7; kind = kind.CantSay } ∷ [])
+unfolding json_on_literals with_statements with_objects gathered digits
+a_reset_of_several = refl
+
 -- ct state new accept: it leads to no chain, and its cause is told
 a_state : said (of_state (codes "\"in\"") (codes "\"new\"")) ≡ unsaid_by kind.NeedsState
 unfolding json_on_literals with_statements with_objects digits assumed_state_table

@@ -1,10 +1,11 @@
 //! What a rule compares, and the packets that it catches by that.
 
 ghost use Rattle.std.specs.Prelude.{◌≡◌, IfOk, OnOk};
-ghost use Rattle.nft_reader.specs.Comparisons.{caught_by, narrowed};
+ghost use Rattle.nft_reader.specs.Comparisons.{caught_by, has_other, is_other, narrowed};
 
 use field_defs::Family;
 use iptables_reader::{Caught, Packets};
+use list_chains::Span;
 use std::alloc::{AllocError, Global};
 use std::marker::Model;
 
@@ -27,15 +28,41 @@ impl Model for Comparison {
     } };
 }
 
+/// The number of protocols, less one.
+const LAST: u64 = 255;
+
+/// Whether a span of protocols is neither that of all nor that of one alone.
+fn is_other(number: u64, span: Span) -> bool
+    ensures { result ≡ is_other number span }
+{
+    !(span.low == 0 && span.high == LAST) && !(span.low == number && span.high == number)
+}
+
+/// Whether the protocols of one of the boxes are so.
+fn has_other(number: u64, boxes: &[Packets]) -> bool
+    ensures { result ≡ has_other number boxes.now }
+{
+    boxes
+        .iter()
+        .any(|packets| is_other(number, packets.protocol))
+}
+
 impl Comparison {
     ghost use Rattle.std.specs.Prelude.{◌≡◌, OnOk};
-    ghost use Rattle.nft_reader.specs.Comparisons.{narrowed};
+    ghost use Rattle.nft_reader.specs.Comparisons.{names_other, narrowed};
 
     /// A comparison with some boxes.
     pub(crate) fn new(negated: bool, boxes: Vec<Packets>) -> Comparison
         ensures { result ≡ record { negated = negated; boxes = boxes.items } }
     {
         Comparison { negated, boxes }
+    }
+
+    /// Whether it names protocols, of which one isn't this one.
+    pub(crate) fn names_other(&self, number: u64) -> bool
+        ensures { result ≡ names_other number self.now }
+    {
+        !self.negated && has_other(number, &self.boxes)
     }
 
     /// Leaves of some packets those that it is true of.

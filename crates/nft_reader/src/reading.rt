@@ -100,11 +100,32 @@ impl Reading {
         }
     }
 
+    /// Whether a comparison names protocols, of which one isn't TCP.
+    fn names_others(&self) -> bool
+        ensures { result ≡ readings.names_others self.now }
+    {
+        self.compared
+            .iter()
+            .any(|comparison| comparison.names_other(TCP))
+    }
+
     /// A verdict.
     fn decide(&mut self, verdict: Verdict)
         ensures { self.new ≡ readings.decided verdict self.old }
     {
         self.act = Some(Act::Decide(verdict));
+    }
+
+    /// Packets of TCP alone, which get a reset. If the rule names other protocols too, the kernel
+    /// drops their packets, and no rule file says it.
+    fn keep_reset(&mut self, alloc: Global, family: Family) -> Result<(), AllocError>
+        ensures { OnOk result (self.new ≡ readings.of_reset family self.old) }
+    {
+        if self.names_others() {
+            self.put_cause(RuleKind::CantSay);
+            return Ok(());
+        }
+        self.keep_protocol(alloc, family, TCP)
     }
 
     /// An answer to the sender, of a type.
@@ -123,7 +144,7 @@ impl Reading {
             Some("icmpx") => {}
             Some("icmp") => self.keep_if(alloc, is_of(family, true))?,
             Some("icmpv6") => self.keep_if(alloc, is_of(family, false))?,
-            Some("tcp reset") => self.keep_protocol(alloc, family, TCP)?,
+            Some("tcp reset") => self.keep_reset(alloc, family)?,
             _ => return Err(RuleStop::Unsaid(RuleKind::BadStatement)),
         }
         self.decide(Verdict::Reject);
