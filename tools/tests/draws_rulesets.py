@@ -123,7 +123,9 @@ class Rules:
             return found + [{"set": {"op": "add", "elem": source, "set": "@seen"}}]
         if self.draw.random() < 0.2:
             return found + [self.looked_up(transport, later)]
-        return found + draws_nft.verdict(self.draw, draws_nft.answers(self.table, self.network, transport), later)
+        # A reset is refused where the protocol is one of several.
+        alone = transport if "l4proto" not in json.dumps(found) else None
+        return found + draws_nft.verdict(self.draw, draws_nft.answers(self.table, self.network, alone), later)
 
 
 def objects(draw, network):
