@@ -194,6 +194,12 @@ class Rulesets(unittest.TestCase):
         self.assertGreater(taken, 10)
 
     @BUILT
+    def test_objects_that_say_nothing_of_packets_are_taken(self):
+        for text in test_nftables.silent_texts():
+            with self.subTest(text=text):
+                self.assertTrue(self.alike(text, "c", "", "line"))
+
+    @BUILT
     def test_rulesets_that_the_tools_refuse_are_refused(self):
         texts = [test_nftables.ruleset(*statements) for statements, _ in test_nftables.REFUSED
                  if '"ip6"' not in json.dumps(statements)]

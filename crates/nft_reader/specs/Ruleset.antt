@@ -304,10 +304,25 @@ table_fault said =
     if has_family said then (if has_flags said then Some object.BadTable else None)
     else Some object.NoFamily
 
+-- objects of tables that statements of rules name (libnftables-json(5), "COUNTER" to "LIMIT"; nft
+-- prints the others like these)
+abbrev pub is_stateful : List ℕ → Bool
+is_stateful name =
+    bytes_eq name (codes "counter") || bytes_eq name (codes "quota")
+    || bytes_eq name (codes "limit") || bytes_eq name (codes "secmark")
+    || bytes_eq name (codes "synproxy")
+
+-- those of connections ("CT HELPER" to "CT EXPECTATION", and "FLOWTABLE")
+abbrev pub is_of_connections : List ℕ → Bool
+is_of_connections name =
+    bytes_eq name (codes "ct helper") || bytes_eq name (codes "ct timeout")
+    || bytes_eq name (codes "ct expectation") || bytes_eq name (codes "flowtable")
+
 -- objects of tables that say nothing of packets by themselves
 abbrev pub is_silent : List ℕ → Bool
 is_silent name =
-    bytes_eq name (codes "set") || bytes_eq name (codes "map") || bytes_eq name (codes "counter")
+    bytes_eq name (codes "set") || bytes_eq name (codes "map") || is_stateful name
+    || is_of_connections name
 
 -- such an object has a family
 abbrev pub silent_fault : Json → Option ObjectKind

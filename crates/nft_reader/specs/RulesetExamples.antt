@@ -2,6 +2,7 @@
 -- the faults of others.
 use Rattle.std.specs.Prelude.{◌≡◌, ℕ, ◌++◌, List, [], ◌∷◌, codes, Result, Ok, Err, Some, None, refl}
 use Rattle.std.specs.Fmt.{digits}
+use Rattle.std.specs.List.{flat_map}
 use Rattle.std.specs.Str.{chars, is_utf8}
 use Rattle.json.proofs.OnLiterals.{json_on_literals}
 use Rattle.json.specs.Json.{document}
@@ -317,6 +318,27 @@ a_queue : said
 unfolding json_on_literals with_statements with_objects gathered digits
 a_queue = refl
 
+-- limit name l accept
+a_named_limit : said
+    (codes "{\"limit\": \"l\"}, {\"accept\": null}")
+    ≡ unsaid_by kind.Rate
+unfolding json_on_literals with_statements with_objects gathered digits
+a_named_limit = refl
+
+-- quota name q accept
+a_named_quota : said
+    (codes "{\"quota\": \"q\"}, {\"accept\": null}")
+    ≡ unsaid_by kind.UnknownStatement
+unfolding json_on_literals with_statements with_objects gathered digits
+a_named_quota = refl
+
+-- flow add @t
+a_flow : said
+    (codes "{\"flow\": {\"op\": \"add\", \"flowtable\": \"@t\"}}")
+    ≡ unsaid_by kind.UnknownStatement
+unfolding json_on_literals with_statements with_objects gathered digits
+a_flow = refl
+
 -- ip saddr @blocked drop, without the set
 a_set_that_isnt_there : said
     (codes "{\"match\": {\"op\": \"==\", \"left\": {\"payload\": {\"protocol\": \"ip\", \"field\": "
@@ -324,6 +346,23 @@ a_set_that_isnt_there : said
     ≡ unsaid_by kind.NoSet
 unfolding json_on_literals with_statements with_objects gathered digits
 a_set_that_isnt_there = refl
+
+-- an object of a table, after another one
+abbrev object_of : List ℕ → List ℕ
+object_of name =
+    codes ", {\"" ++ name
+    ++ codes "\": {\"family\": \"inet\", \"name\": \"o\", \"table\": \"f\", \"handle\": 4}}"
+
+-- objects that say nothing of packets by themselves
+silent_objects : read
+    (codes "{\"nftables\": [{\"metainfo\": {}}"
+    ++ flat_map object_of
+    (codes "quota" ∷ codes "limit" ∷ codes "ct helper" ∷ codes "ct timeout"
+    ∷ codes "ct expectation" ∷ codes "secmark" ∷ codes "synproxy" ∷ codes "flowtable" ∷ [])
+    ++ codes "]}")
+    ≡ Ok []
+unfolding json_on_literals with_objects
+silent_objects = refl
 
 -- an object that isn't known is refused, by its number
 a_command : read (codes "{\"nftables\": [{\"metainfo\": {}}, {\"add\": {}}]}")

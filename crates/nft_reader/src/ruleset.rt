@@ -151,11 +151,29 @@ fn family_in<'a>(said: &Value<'a>) -> Option<&'a str>
     if is_family(name) { Some(name) } else { None }
 }
 
+/// Whether objects of tables of a name are such that statements of rules name.
+fn is_stateful(name: &str) -> bool
+    ensures { result ≡ listed.is_stateful name.now }
+{
+    name == "counter"
+        || name == "quota"
+        || name == "limit"
+        || name == "secmark"
+        || name == "synproxy"
+}
+
+/// Whether they are those of connections.
+fn is_of_connections(name: &str) -> bool
+    ensures { result ≡ listed.is_of_connections name.now }
+{
+    name == "ct helper" || name == "ct timeout" || name == "ct expectation" || name == "flowtable"
+}
+
 /// Whether objects of tables of a name say nothing of packets by themselves.
 fn is_silent(name: &str) -> bool
     ensures { result ≡ listed.is_silent name.now }
 {
-    name == "set" || name == "map" || name == "counter"
+    name == "set" || name == "map" || is_stateful(name) || is_of_connections(name)
 }
 
 /// A chain. Those of other families have no part.
