@@ -179,8 +179,7 @@ class Rulesets(unittest.TestCase):
     @BUILT
     def test_rulesets_that_the_tools_take_decide_as_theirs_or_are_refused(self):
         taken = 0
-        more = [test_nftables.named("s", ["10.0.0.1"]), test_nftables.named("none", [])]
-        rules = [((*statements, test_nftables.DROP), more) for statements, _, _ in test_nftables.TAKEN]
+        rules = [((*statements, test_nftables.DROP), test_nftables.MORE) for statements, _, _ in test_nftables.TAKEN]
         rules += [(({"reject": {"type": kind}},), ()) for kind, _, _ in test_nftables.REJECTED]
         mapped = [test_nftables.services([[22, {"return": None}], [80, test_nftables.DROP]])]
         rules += [(({"vmap": {"key": test_nftables.DPORT, "data": data}},), mapped)

@@ -110,11 +110,32 @@ known_members said =
     present (codes "type") said + present (codes "handle") said + present (codes "flags") said
     + present (codes "elem") said + present (codes "map") said + present (codes "size") said
     + present (codes "policy") said + present (codes "auto-merge") said
-    + present (codes "comment") said
+    + present (codes "comment") said + present (codes "stmt") said
+
+-- a statement that each element of a set has by its only member, if it has one: a counter says
+-- nothing of packets
+abbrev pub is_counter_by : Option (List ℕ × Json) → Bool
+is_counter_by None = false
+is_counter_by (Some found) = bytes_eq found.0 (codes "counter")
+
+-- a statement is a counter
+abbrev pub is_counter : Json → Bool
+is_counter statement = is_counter_by (only statement)
+
+-- all of some statements are, if there are some
+abbrev pub are_counters : Option (List Json) → Bool
+are_counters None = false
+are_counters (Some statements) = list_all is_counter statements
+
+-- those of a set, if it has some, are such
+abbrev pub are_quiet : Option Json → Bool
+are_quiet None = true
+are_quiet (Some value) = are_counters (items_of value)
 
 -- it has these members, and its family, its table and its name
 abbrev pub has_set_members : Json → Bool
-has_set_members said = len_of said == 3 + known_members said
+has_set_members said =
+    len_of said == 3 + known_members said && are_quiet (get (codes "stmt") said)
 
 -- the elements of a member that lists them; without it there are none
 abbrev pub elements_if : Option Json → Option (List Json)

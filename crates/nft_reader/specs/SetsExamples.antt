@@ -104,6 +104,24 @@ an_empty_set : said (set_of (codes ", \"size\": 100")) drops_blocked ≡ with_ru
 unfolding json_on_literals with_statements with_objects gathered digits
 an_empty_set = refl
 
+-- a set that counts the packets of each element
+a_set_that_counts :
+    said (set_of (codes ", \"elem\": [{\"elem\": {\"val\": \"10.0.0.1\", \"counter\": "
+    ++ codes "{\"packets\": 5, \"bytes\": 6}}}, {\"elem\": {\"val\": \"10.0.0.2\", \"comment\": "
+    ++ codes "\"x\", \"counter\": {\"packets\": 0, \"bytes\": 0}}}], \"stmt\": [{\"counter\": "
+    ++ codes "null}]")) drops_blocked
+    ≡ with_rules (from (167772161 to 167772161) ∷ from (167772162 to 167772162) ∷ []) []
+unfolding json_on_literals with_statements with_objects gathered digits
+a_set_that_counts = refl
+
+-- one whose elements have a rate isn't known
+a_set_with_a_rate :
+    said (set_of (codes ", \"elem\": [\"10.0.0.1\"], \"stmt\": [{\"counter\": null}, {\"limit\": "
+    ++ codes "{\"rate\": 1, \"burst\": 5, \"per\": \"second\"}}]")) drops_blocked
+    ≡ with_rules (unsaid ∷ []) (record { handle = 7; kind = kind.OtherSet } ∷ [])
+unfolding json_on_literals with_statements with_objects gathered digits
+a_set_with_a_rate = refl
+
 -- a set whose elements end by time isn't known
 a_timed_set :
     said (set_of (codes ", \"flags\": [\"timeout\"], \"elem\": [\"10.0.0.1\"]")) drops_blocked

@@ -199,7 +199,7 @@ fn is_timed(said: &Value<'_>) -> bool
 /// How many members say nothing of packets, or are read.
 fn known_members(said: &Value<'_>) -> usize
     ensures members { result ≡ sets.known_members (value_view said.now) }
-    ensures bound { result ≤ 9 }
+    ensures bound { result ≤ 10 }
 {
     present("type", said)
         + present("handle", said)
@@ -210,6 +210,49 @@ fn known_members(said: &Value<'_>) -> usize
         + present("policy", said)
         + present("auto-merge", said)
         + present("comment", said)
+        + present("stmt", said)
+}
+
+/// Whether a statement that each element of a set has is a counter.
+fn is_counter(statement: &Value<'_>) -> bool
+    ensures { result ≡ sets.is_counter (value_view statement.now) }
+{
+    match only(statement) {
+        Some((name, _)) => name == "counter",
+        None => false,
+    }
+}
+
+/// Whether all of some statements are.
+fn are_counters(statements: &[Value<'_>]) -> bool
+    ensures { result ≡ list_all sets.is_counter (map value_view statements.now) }
+{
+    for statement in statements {
+        if !is_counter(statement) {
+            return false;
+        }
+    }
+    true
+}
+
+/// Whether the statements of a set, if it has some, say nothing of packets.
+fn has_quiet_statements(said: &Value<'_>) -> bool
+    ensures { result ≡ sets.are_quiet (get (codes "stmt") (value_view said.now)) }
+{
+    let Some(value) = said.get("stmt") else {
+        return true;
+    };
+    match items_of(value) {
+        Some(statements) => are_counters(statements),
+        None => false,
+    }
+}
+
+/// Whether it has members that are known alone.
+fn has_set_members(said: &Value<'_>) -> bool
+    ensures { result ≡ sets.has_set_members (value_view said.now) }
+{
+    len_of(said) == 3 + known_members(said) && has_quiet_statements(said)
 }
 
 /// The elements that are listed.
@@ -244,7 +287,7 @@ fn set_elements<'v, 'a>(
     if is_timed(said) || is_changed(objects, owner) {
         return Err(RuleKind::ChangingSet);
     }
-    if len_of(said) != 3 + known_members(said) {
+    if !has_set_members(said) {
         return Err(RuleKind::OtherSet);
     }
     match listed_elements(said) {
