@@ -193,7 +193,7 @@ class Rulesets(unittest.TestCase):
         self.assertGreater(taken, 10)
 
     @BUILT
-    def test_objects_that_say_nothing_of_packets_are_taken(self):
+    def test_objects_and_comments_that_say_nothing_of_packets_are_taken(self):
         for text in test_nftables.silent_texts():
             with self.subTest(text=text):
                 self.assertTrue(self.alike(text, "c", "", "line"))

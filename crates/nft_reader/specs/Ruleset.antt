@@ -36,7 +36,7 @@ use Rattle.nft_reader.specs.Known.{Question, Setting}
 use Rattle.nft_reader.specs.Results.{◌>>=◌}
 use Rattle.nft_reader.specs.Readings.{ReadRule, decides, no_reading, with_statements}
 use Rattle.nft_reader.specs.Sets.{sets_in}
-use Rattle.nft_reader.specs.Shapes.{items_in, items_of, len_of, number_in, only, text_in}
+use Rattle.nft_reader.specs.Shapes.{items_in, items_of, len_of, number_in, only, present, text_in}
 
 -- how many bytes a ruleset may have
 abbrev pub max_ruleset : ℕ
@@ -228,11 +228,12 @@ abbrev pub base_policy : Answers → ℕ → Json → Result (Option ℕ) Object
 base_policy asked handle said =
     if has_hook said then policy_answer asked handle (policy_in said) else Err object.BadChain
 
--- a chain has four members, and eight if packets come to it by themselves
+-- a chain has four members, and eight if packets come to it by themselves; it may have a comment
 abbrev pub policy_of : Answers → ℕ → Json → Result (Option ℕ) ObjectKind
 policy_of asked handle said =
-    if len_of said == 4 then Ok None
-    else (if len_of said == 8 then base_policy asked handle said else Err object.BadChain)
+    if len_of said == 4 + present (codes "comment") said then Ok None
+    else (if len_of said == 8 + present (codes "comment") said then base_policy asked handle said
+    else Err object.BadChain)
 
 -- what a chain says: its name and the answer of its policy
 pub record ChainParts : Type 0 where

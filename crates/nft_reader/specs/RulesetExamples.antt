@@ -364,6 +364,25 @@ silent_objects : read
 unfolding json_on_literals with_objects
 silent_objects = refl
 
+-- a table and chains with comments
+comments_of_chains : read
+    (codes "{\"nftables\": [{\"table\": {\"family\": \"inet\", \"name\": \"f\", \"handle\": 1, "
+    ++ codes "\"comment\": \"x\"}}, {\"chain\": {\"family\": \"inet\", \"table\": \"f\", \"name\": "
+    ++ codes "\"web\", \"handle\": 1, \"comment\": \"x\"}}, {\"chain\": {\"family\": \"inet\", "
+    ++ codes "\"table\": \"f\", \"name\": \"in\", \"handle\": 2, \"comment\": \"x\", \"type\": "
+    ++ codes "\"filter\", \"hook\": \"input\", \"prio\": 0, \"policy\": \"drop\"}}]}")
+    ≡ with_rules [] []
+unfolding json_on_literals with_objects
+comments_of_chains = refl
+
+-- a chain with another member is refused, by its number
+a_chain_of_a_device : read
+    (codes "{\"nftables\": [{\"chain\": {\"family\": \"inet\", \"table\": \"f\", \"name\": \"in\", "
+    ++ codes "\"handle\": 2, \"dev\": \"eth0\"}}]}")
+    ≡ Err (record { object = 1; kind = object.BadChain })
+unfolding json_on_literals with_objects
+a_chain_of_a_device = refl
+
 -- an object that isn't known is refused, by its number
 a_command : read (codes "{\"nftables\": [{\"metainfo\": {}}, {\"add\": {}}]}")
     ≡ Err (record { object = 2; kind = object.UnknownObject })

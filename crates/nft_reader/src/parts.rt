@@ -9,7 +9,7 @@ use crate::chain::{Owner, answer_of};
 use crate::fault::ObjectKind;
 use crate::known::Answers;
 use crate::reading::Verdict;
-use crate::shapes::{items_in, len_of, number_in, text_in};
+use crate::shapes::{items_in, len_of, number_in, present, text_in};
 use json::Value;
 
 /// The greatest handle.
@@ -150,15 +150,18 @@ fn base_policy(answers: Answers, handle: u32, said: &Value<'_>) -> Result<Option
 }
 
 /// The policy of a chain, which has eight members if packets come to it by themselves, and else
-/// four.
+/// four, and may have a comment.
 fn policy_of(answers: Answers, handle: u32, said: &Value<'_>) -> Result<Option<u32>, ObjectKind>
     ensures { result ≡ listed.policy_of answers handle (value_view said.now) }
 {
-    match len_of(said) {
-        4 => Ok(None),
-        8 => base_policy(answers, handle, said),
-        _ => Err(ObjectKind::BadChain),
+    let comments = present("comment", said);
+    if len_of(said) == 4 + comments {
+        return Ok(None);
     }
+    if len_of(said) == 8 + comments {
+        return base_policy(answers, handle, said);
+    }
+    Err(ObjectKind::BadChain)
 }
 
 /// What a chain of a family says.
