@@ -29,7 +29,7 @@ module _ (question : Question) where
   -- a part, and then those after it
   pub part_first : (boxes : List Packets) (key value : Json) (keys values : List Json) →
       parts_boxes question boxes (key ∷ keys) (value ∷ values)
-      ≡ (thing_boxes question key value >>= λ more. parts_boxes question (meets boxes more) keys values)
+      ≡ (thing_boxes question boxes key value >>= λ more. parts_boxes question (meets boxes more) keys values)
   unfolding parts_boxes
   part_first boxes key value keys values = refl
 

@@ -38,10 +38,11 @@ port_field name =
     if bytes_eq name (codes "sport") then Some field.SourcePorts
     else (if bytes_eq name (codes "dport") then Some field.DestinationPorts else None)
 
--- the ports of a protocol
+-- the ports of a protocol, or with `th` of whatever protocol a packet has
 abbrev pub ports_of : List ℕ → List ℕ → Option Left
 ports_of protocol name =
-    option_and_then (λ number. option_map (left.Ports number) (port_field name))
+    if bytes_eq protocol (codes "th") then option_map left.AnyPorts (port_field name)
+    else option_and_then (λ number. option_map (left.Ports number) (port_field name))
     (ported_named protocol)
 
 -- a field of a header, of IPv4 packets

@@ -1,7 +1,7 @@
 -- What a rule compares: each comparison says of packets that they lie in one of some boxes, or
 -- after `!=` in none. A rule catches the packets that all of its comparisons are true of.
-use Rattle.std.specs.Prelude.{ℕ, ◌==◌, Bool, not, ◌&&◌, List, fold}
-use Rattle.std.specs.List.{list_any}
+use Rattle.std.specs.Prelude.{ℕ, ◌==◌, Bool, not, ◌&&◌, ◌||◌, List, fold}
+use Rattle.std.specs.List.{list_all, list_any}
 use Rattle.field_defs.specs.declared.field.Family.{Family}
 use Rattle.list_chains.specs.declared.span.Span.{Span}
 use Rattle.iptables_reader.specs.declared.packets.Packets.{Packets}
@@ -24,6 +24,19 @@ has_other number boxes = list_any (λ packets. is_other number packets.protocol)
 -- a comparison names protocols, of which one isn't this one
 abbrev pub names_other : ℕ → ComparedBoxes → Bool
 names_other number comparison = not comparison.negated && has_other number comparison.boxes
+
+-- a span is that of a protocol whose ports keys have
+abbrev pub is_ported : Span → Bool
+is_ported span =
+    span.low == span.high && (span.low == 6 || span.low == 17 || span.low == 132)
+
+-- each of some boxes has one
+abbrev pub are_ported : List Packets → Bool
+are_ported boxes = list_all (λ packets. is_ported packets.protocol) boxes
+
+-- a comparison leaves no packets of other protocols
+abbrev pub leaves_ported : ComparedBoxes → Bool
+leaves_ported comparison = not comparison.negated && are_ported comparison.boxes
 
 -- those of some packets that a comparison is true of
 abbrev pub narrowed : CaughtBoxes → ComparedBoxes → CaughtBoxes

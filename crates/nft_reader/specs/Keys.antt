@@ -1,6 +1,6 @@
 -- What the left side of a comparison or the key of a map takes together (libnftables-json(5),
 -- "CONCAT"): an element is the packets that have its part in each of what is taken together.
-use Rattle.std.specs.Prelude.{ℕ, ◌==◌, Bool, true, false, if◌then◌else◌, codes}
+use Rattle.std.specs.Prelude.{ℕ, ◌==◌, ◌||◌, Bool, true, false, if◌then◌else◌, codes}
 use Rattle.std.specs.Prelude.{List, [], ◌∷◌, ◌++◌, length, Option, Some, None, option_and_then}
 use Rattle.std.specs.Prelude.{Result, Ok, Err}
 use Rattle.std.specs.Str.{bytes_eq}
@@ -18,6 +18,7 @@ use Rattle.nft_reader.specs.declared.compared.Operator.TheVariants as operator
 use Rattle.nft_reader.specs.Assumed.{interface_met, state_met, state_values}
 use Rattle.nft_reader.specs.Boxes.{number_boxes, part_boxes}
 use Rattle.nft_reader.specs.Compared.{family_met, left_of}
+use Rattle.nft_reader.specs.Comparisons.{are_ported}
 use Rattle.nft_reader.specs.Known.{Question}
 use Rattle.nft_reader.specs.Results.{◌>>=◌, or_cant}
 use Rattle.nft_reader.specs.Shapes.{items_of, only}
@@ -43,6 +44,7 @@ field_boxes family (left.Plain which) value = part_boxes family (part.Number whi
 field_boxes family (left.Address which) value = part_boxes family (part.Address which) (value ∷ [])
 field_boxes family (left.Ports number which) value =
     number_boxes (protocol_packets family number) which (value ∷ [])
+field_boxes family (left.AnyPorts which) value = part_boxes family (part.Number which) (value ∷ [])
 field_boxes family left.OtherFamily value = Some []
 field_boxes family left.Nfproto value = None
 field_boxes family (left.Interface which manner) value = None
@@ -53,6 +55,7 @@ abbrev pub met_of : Question → Left → Json → Option (Result Bool RuleKind)
 met_of question (left.Plain which) value = None
 met_of question (left.Address which) value = None
 met_of question (left.Ports number which) value = None
+met_of question (left.AnyPorts which) value = None
 met_of question left.OtherFamily value = None
 met_of question left.Nfproto value = Some (or_cant (family_met question.asked.family value))
 met_of question (left.Interface which manner) value =
@@ -72,10 +75,22 @@ left_boxes question side value =
     left_by question.asked.family (field_boxes question.asked.family side value)
     (met_of question side value)
 
--- the packets of which one thing is an element
-abbrev pub thing_boxes : Question → Json → Json → Result (List Packets) RuleKind
-thing_boxes question key value =
-    or_cant (left_of question.asked.family key) >>= λ side. left_boxes question side value
+-- a thing can be told of packets in some boxes: ports of whatever protocol, if each has ports
+abbrev pub is_told : Question → List Packets → Left → Bool
+is_told question boxes (left.Plain which) = true
+is_told question boxes (left.Address which) = true
+is_told question boxes (left.Ports number which) = true
+is_told question boxes (left.AnyPorts which) = question.ported || are_ported boxes
+is_told question boxes left.OtherFamily = true
+is_told question boxes left.Nfproto = true
+is_told question boxes (left.Interface which manner) = true
+is_told question boxes left.State = true
+
+-- the packets of which one thing is an element, if it can be told of those in some boxes
+abbrev pub thing_boxes : Question → List Packets → Json → Json → Result (List Packets) RuleKind
+thing_boxes question boxes key value =
+    or_cant (left_of question.asked.family key) >>= λ side.
+    if is_told question boxes side then left_boxes question side value else Err kind.CantSay
 
 -- the packets of which each thing is its part of an element, among those of some boxes
 unfoldable pub parts_boxes : Question → List Packets → List Json → List Json →
@@ -83,7 +98,8 @@ unfoldable pub parts_boxes : Question → List Packets → List Json → List Js
 parts_boxes question boxes [] values = Ok boxes
 parts_boxes question boxes (key ∷ keys) [] = Err kind.CantSay
 parts_boxes question boxes (key ∷ keys) (value ∷ values) =
-    thing_boxes question key value >>= λ more. parts_boxes question (meets boxes more) keys values
+    thing_boxes question boxes key value
+    >>= λ more. parts_boxes question (meets boxes more) keys values
 
 -- an element has a part for each thing that is taken together
 abbrev pub concat_boxes : Question → List Json → List Json → Result (List Packets) RuleKind

@@ -1,5 +1,5 @@
 -- What is asked of a ruleset, and what is known where a rule is read.
-use Rattle.std.specs.Prelude.{ℕ, List, map}
+use Rattle.std.specs.Prelude.{ℕ, Bool, List, map}
 use Rattle.nft_reader.specs.declared.known.Asked.{Asked}
 use Rattle.nft_reader.specs.declared.known.Known as told
 use Rattle.nft_reader.specs.declared.known.Question as put
@@ -7,14 +7,20 @@ use Rattle.nft_reader.specs.declared.known.Setting as laid
 use Rattle.nft_reader.specs.Chains.{ListedChain, Names, names_of}
 use Rattle.nft_reader.specs.Sets.{ListedSet, set_of}
 
--- what is asked, and what is assumed of packets
+-- what is asked, what is assumed of packets, and whether all that a rule catches so far are of
+-- protocols whose ports keys have
 pub record Question : Type 0 where
   pub asked : Asked
   pub assumed : List ℕ
+  pub ported : Bool
 
 -- the same where it is put
 abbrev pub question_of : put.Question → Question
-question_of question = record { asked = question.asked; assumed = question.assumed.now }
+question_of question = record {
+  asked = question.asked;
+  assumed = question.assumed.now;
+  ported = question.ported;
+}
 
 -- the question, and the sets of the ruleset
 pub record Setting : Type 0 where

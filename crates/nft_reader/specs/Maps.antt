@@ -111,19 +111,26 @@ one_more_looked caught boxes does looked = record {
   boxes = looked.boxes ++ boxes;
 }
 
+-- all packets of the question's family
+abbrev pub asked_packets : Question → Packets
+asked_packets question = all_packets question.asked.family
+
 -- the packets that have what is compared, if that is said
-abbrev pub having : Family → Left → Option Packets
-having family (left.Plain which) = Some (all_packets family)
-having family (left.Address which) = Some (all_packets family)
-having family (left.Ports number which) = Some (protocol_packets family number)
-having family left.OtherFamily = None
-having family left.Nfproto = Some (all_packets family)
-having family (left.Interface which manner) = Some (all_packets family)
-having family left.State = Some (all_packets family)
+abbrev pub having : Question → Left → Option Packets
+having question (left.Plain which) = Some (asked_packets question)
+having question (left.Address which) = Some (asked_packets question)
+having question (left.Ports number which) =
+    Some (protocol_packets question.asked.family number)
+having question (left.AnyPorts which) =
+    if question.ported then Some (asked_packets question) else None
+having question left.OtherFamily = None
+having question left.Nfproto = Some (asked_packets question)
+having question (left.Interface which manner) = Some (asked_packets question)
+having question left.State = Some (asked_packets question)
 
 -- those that have one thing; of several it isn't said
-abbrev pub rest_box : Family → Json → Option Packets
-rest_box family key = option_and_then (having family) (left_of family key)
+abbrev pub rest_box : Question → Json → Option Packets
+rest_box question key = option_and_then (having question) (left_of question.asked.family key)
 
 -- the element that stands for all others
 abbrev pub is_rest : Json → Bool
@@ -147,7 +154,7 @@ abbrev pub with_looked : Question → Json → List ComparedBoxes → Json → O
     Result Looked RuleKind
 with_looked question key compared value does looked =
     if is_rest value
-    then (or_cant (rest_box question.asked.family key) >>= λ packets.
+    then (or_cant (rest_box question key) >>= λ packets.
     Ok (with_rest question.asked.family compared does looked packets))
     else (key_boxes question key value
     >>= with_apart question.asked.family compared does looked)

@@ -1,6 +1,6 @@
 -- Examples of maps to verdicts, each checked by evaluation: statements as nft -j prints them, and
 -- the rules of their elements.
-use Rattle.std.specs.Prelude.{◌≡◌, ℕ, ◌++◌, List, [], ◌∷◌, codes, Result, Ok, None, refl}
+use Rattle.std.specs.Prelude.{◌≡◌, ℕ, ◌++◌, List, [], ◌∷◌, codes, false, Result, Ok, None, refl}
 use Rattle.std.specs.Fmt.{digits}
 use Rattle.json.proofs.OnLiterals.{json_on_literals}
 use Rattle.json.specs.Json.{document}
@@ -60,6 +60,7 @@ said_under assumed objects statements =
     chains_of_document (record {
       asked = record { family = family.Ip4; answers = answers.Handle };
       assumed = assumed;
+      ported = false;
     })
     (document (codes "{\"nftables\": [" ++ objects
     ++ codes "{\"chain\": {\"family\": \"ip\", \"table\": \"f\", \"name\": \"web\", "
@@ -78,6 +79,15 @@ port_map elements =
     codes "{\"vmap\": {\"key\": {\"payload\": {\"protocol\": \"tcp\", \"field\": \"dport\"}}, "
     ++ codes "\"data\": " ++ elements ++ codes "}}"
 
+-- packets of a protocol to port 53 have one verdict, and those to other ports another
+abbrev of_port : Span → ListRule (List Span)
+of_port protocol = rule Decide (packets protocol (0 to 4294967295) (53 to 53)) []
+
+abbrev of_others : Span → ListRule (List Span)
+of_others protocol =
+    rule Decide (packets protocol (0 to 4294967295) (0 to 65535))
+    (packets (0 to 255) (0 to 4294967295) (53 to 53) ∷ [])
+
 -- tcp dport vmap { 22 : jump web, 23 : continue, * : drop }: packets to port 22 come back to the
 -- next rule, so that the last element doesn't have them
 an_element_for_all_others :
@@ -88,6 +98,17 @@ an_element_for_all_others :
     ∷ []) []
 unfolding json_on_literals with_statements with_objects with_elements gathered parts_boxes digits
 an_element_for_all_others = refl
+
+-- meta l4proto { udp, sctp } th dport vmap { 53 : accept, * : drop }
+a_map_of_ports :
+    said [] (codes "{\"match\": {\"op\": \"==\", \"left\": {\"meta\": {\"key\": \"l4proto\"}}, "
+    ++ codes "\"right\": {\"set\": [\"udp\", \"sctp\"]}}}, {\"vmap\": {\"key\": {\"payload\": "
+    ++ codes "{\"protocol\": \"th\", \"field\": \"dport\"}}, \"data\": {\"set\": [[53, "
+    ++ codes "{\"accept\": null}], [\"*\", {\"drop\": null}]]}}}")
+    ≡ with_rules (of_port (17 to 17) ∷ of_port (132 to 132)
+    ∷ of_others (17 to 17) ∷ of_others (132 to 132) ∷ []) []
+unfolding json_on_literals with_statements with_objects with_elements gathered parts_boxes digits
+a_map_of_ports = refl
 
 -- tcp dport vmap @verdicts
 a_map_by_its_name :

@@ -28,7 +28,7 @@ use Rattle.nft_reader.specs.Assumed.{interface_met, state_met, state_values}
 use Rattle.nft_reader.specs.Boxes.{part_boxes}
 use Rattle.nft_reader.specs.Compared.{MatchSides, family_met, is_negated, is_of, is_turned}
 use Rattle.nft_reader.specs.Compared.{operator_of, sides_of}
-use Rattle.nft_reader.specs.Comparisons.{ComparedBoxes, names_other}
+use Rattle.nft_reader.specs.Comparisons.{ComparedBoxes, leaves_ported, names_other}
 use Rattle.nft_reader.specs.Keys.{concat_of, elements_boxes, protocol_packets}
 use Rattle.nft_reader.specs.Known.{Known}
 use Rattle.nft_reader.specs.Maps.{looked_up}
@@ -129,6 +129,9 @@ with_side known (left.Address which) compares right reading =
 with_side known (left.Ports number which) compares right reading =
     with_value known (part.Number which) compares right
     (of_protocol known.question.asked.family number reading)
+with_side known (left.AnyPorts which) compares right reading =
+    if known.question.ported then with_value known (part.Number which) compares right reading
+    else with_cause kind.CantSay reading
 with_side known left.OtherFamily compares right reading = of_none reading
 with_side known left.Nfproto compares right reading =
     with_met reading (is_negated compares)
@@ -188,9 +191,18 @@ with_compared known said reading None =
 with_compared known said reading (Some key) =
     with_together reading (boxes_together known said key)
 
+-- a comparison of the rule leaves packets alone whose protocols have ports
+abbrev pub keeps_ported : ReadRule → Bool
+keeps_ported reading = list_any leaves_ported reading.compared
+
+-- what is known after the comparisons of a rule
+abbrev pub told : Known → ReadRule → Known
+told known reading =
+    record known { question = record known.question { ported = keeps_ported reading } }
+
 -- a comparison
 abbrev pub with_match : Known → Json → ReadRule → ReadRule
-with_match known said reading = with_compared known said reading (together_in said)
+with_match known said reading = with_compared (told known reading) said reading (together_in said)
 
 -- ---- what becomes of packets
 
@@ -255,7 +267,7 @@ with_verdict name reading =
 -- what becomes of the packets of a map's elements
 abbrev pub with_map : Known → Json → ReadRule → Result ReadRule RuleKind
 with_map known said reading =
-    looked_up known said reading.compared >>= λ looked.
+    looked_up (told known reading) said reading.compared >>= λ looked.
     Ok (record reading { branches = looked.branches; looked = true })
 
 -- a jump, or another statement

@@ -425,4 +425,4 @@ chains_of_text question bytes =
 abbrev pub chains_of : Asked → List ℕ → List ℕ → Result (List ListedChain) ObjectFault
 chains_of asked assumed bytes =
     if nat_lt max_ruleset (length bytes) then Err (whole_fault object.FileTooLong)
-    else chains_of_text (record { asked = asked; assumed = assumed }) bytes
+    else chains_of_text (record { asked = asked; assumed = assumed; ported = false }) bytes

@@ -1,6 +1,6 @@
 -- Examples of rulesets, each checked by evaluation: rules as nft -j prints them, what they say, and
 -- the faults of others.
-use Rattle.std.specs.Prelude.{◌≡◌, ℕ, ◌++◌, List, [], ◌∷◌, codes, Result, Ok, Err, Some, None, refl}
+use Rattle.std.specs.Prelude.{◌≡◌, ℕ, ◌++◌, List, [], ◌∷◌, codes, false, Result, Ok, Err, Some, None, refl}
 use Rattle.std.specs.Fmt.{digits}
 use Rattle.std.specs.List.{flat_map}
 use Rattle.std.specs.Str.{chars, is_utf8}
@@ -97,7 +97,8 @@ handles6 = record { family = family.Ip6; answers = answers.Handle }
 -- what a text says that is UTF-8, with such answers, under what is assumed
 abbrev read_as : Asked → List ℕ → List ℕ → Result (List ListedChain) ObjectFault
 read_as asked assumed bytes =
-    chains_of_document (record { asked = asked; assumed = assumed }) (document bytes)
+    chains_of_document (record { asked = asked; assumed = assumed; ported = false })
+    (document bytes)
 
 -- the same for IPv4 packets, of which nothing is assumed
 abbrev read : List ℕ → Result (List ListedChain) ObjectFault
@@ -248,6 +249,29 @@ a_reset_of_several : said
     (record { handle = 7; kind = kind.CantSay } ∷ [])
 unfolding json_on_literals with_statements with_objects gathered digits
 a_reset_of_several = refl
+
+-- a comparison of the protocol with two, one of them UDP, and th dport 53 accept
+abbrev to_port_of : List ℕ → List ℕ
+to_port_of protocol =
+    codes "{\"match\": {\"op\": \"==\", \"left\": {\"meta\": {\"key\": \"l4proto\"}}, "
+    ++ codes "\"right\": {\"set\": [" ++ protocol ++ codes ", \"udp\"]}}}, {\"match\": {\"op\": "
+    ++ codes "\"==\", \"left\": {\"payload\": {\"protocol\": \"th\", \"field\": \"dport\"}}, "
+    ++ codes "\"right\": 53}}, {\"accept\": null}"
+
+-- meta l4proto { tcp, udp } th dport 53 accept
+ports_of_several : said (to_port_of (codes "\"tcp\""))
+    ≡ with_rules (rule 7 Decide (tcp ∷ any ∷ any ∷ ports ∷ (53 to 53) ∷ [])
+    ∷ rule 7 Decide ((17 to 17) ∷ any ∷ any ∷ ports ∷ (53 to 53) ∷ []) ∷ []) []
+unfolding json_on_literals with_statements with_objects gathered digits
+ports_of_several = refl
+
+-- meta l4proto { icmp, udp } th dport 53 accept: packets of ICMP have something else there
+ports_of_others : said (to_port_of (codes "\"icmp\""))
+    ≡ with_rules (rule 7 nowhere ((1 to 1) ∷ any ∷ any ∷ ports ∷ ports ∷ [])
+    ∷ rule 7 nowhere ((17 to 17) ∷ any ∷ any ∷ ports ∷ ports ∷ []) ∷ [])
+    (record { handle = 7; kind = kind.CantSay } ∷ [])
+unfolding json_on_literals with_statements with_objects gathered digits
+ports_of_others = refl
 
 -- ct state new accept: it leads to no chain, and its cause is told
 a_state : said (of_state (codes "\"in\"") (codes "\"new\"")) ≡ unsaid_by kind.NeedsState

@@ -1,6 +1,6 @@
 -- Examples of sets and of several things together, each checked by evaluation: objects as nft -j
 -- prints them, and what a rule that names them says.
-use Rattle.std.specs.Prelude.{◌≡◌, ℕ, ◌++◌, List, [], ◌∷◌, codes, Result, Ok, None, refl}
+use Rattle.std.specs.Prelude.{◌≡◌, ℕ, ◌++◌, List, [], ◌∷◌, codes, false, Result, Ok, None, refl}
 use Rattle.std.specs.Fmt.{digits}
 use Rattle.json.proofs.OnLiterals.{json_on_literals}
 use Rattle.json.specs.Json.{document}
@@ -69,6 +69,7 @@ read bytes =
     chains_of_document (record {
       asked = record { family = family.Ip4; answers = answers.Handle };
       assumed = [];
+      ported = false;
     }) (document bytes)
 
 -- a ruleset of objects, a chain, and a rule of it
@@ -168,6 +169,29 @@ several_together :
     ∷ rule Decide (packets (6 to 6) (184549376 to 201326591) (80 to 90)) ∷ []) []
 unfolding json_on_literals with_statements with_objects gathered parts_boxes elements_boxes digits
 several_together = refl
+
+-- meta l4proto . th dport, one of two elements, accept
+abbrev to_ports : List ℕ → List ℕ
+to_ports protocol =
+    codes "{\"match\": {\"op\": \"==\", \"left\": {\"concat\": [{\"meta\": {\"key\": "
+    ++ codes "\"l4proto\"}}, {\"payload\": {\"protocol\": \"th\", \"field\": \"dport\"}}]}, "
+    ++ codes "\"right\": {\"set\": [{\"concat\": [" ++ protocol ++ codes ", 22]}, {\"concat\": "
+    ++ codes "[\"udp\", 53]}]}}}, {\"accept\": null}"
+
+-- meta l4proto . th dport { tcp . 22, udp . 53 } accept
+ports_together :
+    said [] (to_ports (codes "\"tcp\""))
+    ≡ with_rules (rule Decide (packets (6 to 6) (0 to 4294967295) (22 to 22))
+    ∷ rule Decide (packets (17 to 17) (0 to 4294967295) (53 to 53)) ∷ []) []
+unfolding json_on_literals with_statements with_objects gathered parts_boxes elements_boxes digits
+ports_together = refl
+
+-- meta l4proto . th dport { icmp . 22, udp . 53 } accept: packets of ICMP have something else there
+others_of_ports :
+    said [] (to_ports (codes "\"icmp\""))
+    ≡ with_rules (unsaid ∷ []) (record { handle = 7; kind = kind.CantSay } ∷ [])
+unfolding json_on_literals with_statements with_objects gathered parts_boxes elements_boxes digits
+others_of_ports = refl
 
 -- that they are others isn't said
 others_together :

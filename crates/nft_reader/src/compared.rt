@@ -24,6 +24,8 @@ pub(crate) enum Left {
     Address(End),
     /// Ports of packets of the protocol with the number.
     Ports(u64, Field),
+    /// Ports of packets of whatever protocol.
+    AnyPorts(Field),
     /// A field that no packet of the family has.
     OtherFamily,
     /// The family of packets.
@@ -108,10 +110,13 @@ fn port_field(name: &str) -> Option<Field>
     }
 }
 
-/// The ports of a protocol.
+/// The ports of a protocol, or with `th` of whatever protocol a packet has.
 fn ports_of(protocol: &str, name: &str) -> Option<Left>
     ensures { result ≡ ports_of protocol.now name.now }
 {
+    if protocol == "th" {
+        return Some(Left::AnyPorts(port_field(name)?));
+    }
     let number = ported_named(protocol)?;
     Some(Left::Ports(number, port_field(name)?))
 }

@@ -12,7 +12,7 @@ use crate::sets::{Form, named_elements, named_in};
 use crate::together::{boxes_together, together_in};
 use crate::values::elements_of;
 use field_defs::Family;
-use iptables_reader::Packets;
+use iptables_reader::{Field, Packets};
 use json::Value;
 use std::alloc::{AllocError, Global};
 
@@ -21,6 +21,7 @@ impl Reading {
     ghost use Rattle.json.specs.Value.{value_view};
     ghost use Rattle.nft_reader.specs.Known.{known_of};
     ghost use Rattle.nft_reader.specs.Compared.{sides_of};
+    ghost use Rattle.nft_reader.specs.declared.compared.Left.TheVariants as left;
     ghost use Rattle.nft_reader.specs.Readings as readings;
     ghost use Rattle.nft_reader.specs.Results.{or_cant};
     ghost use Rattle.nft_reader.specs.Boxes.{part_boxes};
@@ -170,6 +171,25 @@ impl Reading {
         Ok(())
     }
 
+    /// A comparison of ports of whatever protocol, which each packet of the rule has to have.
+    fn add_any_ports(
+        &mut self,
+        alloc: Global,
+        known: Known<'_, '_, '_>,
+        field: Field,
+        operator: Operator,
+        right: &Value<'_>,
+    ) -> Result<(), AllocError>
+        ensures { OnOk result (self.new ≡ readings.with_side (known_of known.entry)
+            (left.AnyPorts field) operator (value_view right.now) self.old) }
+    {
+        if !known.question.ported {
+            self.put_cause(RuleKind::CantSay);
+            return Ok(());
+        }
+        self.add_value(alloc, known, Part::Number(field), operator, right)
+    }
+
     /// A comparison by its left side.
     fn add_side(
         &mut self,
@@ -181,7 +201,7 @@ impl Reading {
             sides.entry.side sides.entry.operator (value_view sides.entry.right.now) self.old) }
     {
         let (operator, right) = (sides.operator, sides.right);
-        let Question { asked, assumed } = known.question;
+        let Question { asked, assumed, .. } = known.question;
         match sides.side {
             Left::Plain(field) => self.add_value(
                 alloc,
@@ -195,6 +215,7 @@ impl Reading {
                 self.keep_protocol(alloc, asked.family, number)?;
                 self.add_value(alloc, known, Part::Number(field), operator, right)
             }
+            Left::AnyPorts(field) => self.add_any_ports(alloc, known, field, operator, right),
             Left::OtherFamily => self.keep_none(alloc),
             Left::Nfproto => {
                 let met = family_met(asked.family, right).ok_or(RuleKind::CantSay);
@@ -221,6 +242,7 @@ impl Reading {
         ensures { OnOk result
             (self.new ≡ readings.with_match (known_of known.entry) (value_view said.now) self.old) }
     {
+        let known = self.told(known);
         match together_in(said) {
             Some(key) => self.add_together(alloc, known, said, key),
             None => self.add_sides(alloc, known, said),

@@ -1,7 +1,8 @@
 //! What a rule compares, and the packets that it catches by that.
 
 ghost use Rattle.std.specs.Prelude.{◌≡◌, IfOk, OnOk};
-ghost use Rattle.nft_reader.specs.Comparisons.{caught_by, has_other, is_other, narrowed};
+ghost use Rattle.nft_reader.specs.Comparisons.{are_ported, caught_by, has_other, is_other};
+ghost use Rattle.nft_reader.specs.Comparisons.{is_ported, narrowed};
 
 use field_defs::Family;
 use iptables_reader::{Caught, Packets};
@@ -47,9 +48,23 @@ fn has_other(number: u64, boxes: &[Packets]) -> bool
         .any(|packets| is_other(number, packets.protocol))
 }
 
+/// Whether a span is that of a protocol whose ports keys have.
+fn is_ported(span: Span) -> bool
+    ensures { result ≡ is_ported span }
+{
+    span.low == span.high && (span.low == 6 || span.low == 17 || span.low == 132)
+}
+
+/// Whether each of some boxes has one.
+pub(crate) fn are_ported(boxes: &[Packets]) -> bool
+    ensures { result ≡ are_ported boxes.now }
+{
+    boxes.iter().all(|packets| is_ported(packets.protocol))
+}
+
 impl Comparison {
     ghost use Rattle.std.specs.Prelude.{◌≡◌, OnOk};
-    ghost use Rattle.nft_reader.specs.Comparisons.{names_other, narrowed};
+    ghost use Rattle.nft_reader.specs.Comparisons.{leaves_ported, names_other, narrowed};
 
     /// A comparison with some boxes.
     pub(crate) fn new(negated: bool, boxes: Vec<Packets>) -> Comparison
@@ -63,6 +78,13 @@ impl Comparison {
         ensures { result ≡ names_other number self.now }
     {
         !self.negated && has_other(number, &self.boxes)
+    }
+
+    /// Whether it leaves no packets of other protocols than those with ports.
+    pub(crate) fn leaves_ported(&self) -> bool
+        ensures { result ≡ leaves_ported self.now }
+    {
+        !self.negated && are_ported(&self.boxes)
     }
 
     /// Leaves of some packets those that it is true of.

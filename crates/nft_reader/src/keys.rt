@@ -12,6 +12,7 @@ ghost use Rattle.nft_reader.specs.Stops.{RefusesRule};
 use crate::assumed::{interface_met, state_met};
 use crate::boxes::{number_boxes, part_boxes};
 use crate::compared::{Left, Operator, Part, family_met, left_of};
+use crate::comparison::are_ported;
 use crate::fault::{RuleKind, RuleStop};
 use crate::known::Question;
 use crate::shapes::{items_of, only};
@@ -69,9 +70,13 @@ fn met_boxes(
 fn met_of(question: Question<'_>, side: Left, value: &Value<'_>) -> Option<Result<bool, RuleKind>>
     ensures { result ≡ keyed.met_of (question_of question.entry) side (value_view value.now) }
 {
-    let Question { asked, assumed } = question;
+    let Question { asked, assumed, .. } = question;
     match side {
-        Left::Plain(_) | Left::Address(_) | Left::Ports(..) | Left::OtherFamily => None,
+        Left::Plain(_)
+        | Left::Address(_)
+        | Left::Ports(..)
+        | Left::AnyPorts(_)
+        | Left::OtherFamily => None,
         Left::Nfproto => Some(family_met(asked.family, value).ok_or(RuleKind::CantSay)),
         Left::Interface(way, naming) => Some(interface_met(assumed, way, naming, value)),
         Left::State => Some(state_met(assumed, Operator::Equal, value)),
@@ -96,6 +101,7 @@ fn field_boxes(
         Left::Ports(number, field) => {
             number_boxes(alloc, protocol_packets(family, number), field, values)
         }
+        Left::AnyPorts(field) => part_boxes(alloc, family, Part::Number(field), values),
         Left::OtherFamily => Ok(Some(Vec::new(alloc))),
         Left::Nfproto | Left::Interface(..) | Left::State => Ok(None),
     }
@@ -124,24 +130,38 @@ fn left_boxes(
     met_boxes(alloc, family, met)
 }
 
-/// The packets of which one thing is an element.
+/// Whether a thing can be told of packets in some boxes.
+fn is_told(question: Question<'_>, boxes: &[Packets], side: Left) -> bool
+    ensures { result ≡ keyed.is_told (question_of question.entry) boxes.now side }
+{
+    match side {
+        Left::AnyPorts(_) => question.ported || are_ported(boxes),
+        _ => true,
+    }
+}
+
+/// The packets of which one thing is an element, if it can be told of those in some boxes.
 fn thing_boxes(
     alloc: Global,
     question: Question<'_>,
+    boxes: &[Packets],
     key: &Value<'_>,
     value: &Value<'_>,
 ) -> Result<Vec<Packets>, RuleStop>
     ensures { MatchResult result
-        (λ boxes. keyed.thing_boxes (question_of question.entry)
+        (λ found. keyed.thing_boxes (question_of question.entry) boxes.now
         (value_view key.now) (value_view value.now)
-        ≡ Ok boxes.items)
+        ≡ Ok found.items)
         (RefusesRule
-        (keyed.thing_boxes (question_of question.entry)
+        (keyed.thing_boxes (question_of question.entry) boxes.now
         (value_view key.now) (value_view value.now))) }
 {
     let Some(side) = left_of(question.asked.family, key) else {
         return Err(CANT_SAY);
     };
+    if !is_told(question, boxes, side) {
+        return Err(CANT_SAY);
+    }
     left_boxes(alloc, question, side, value)
 }
 
@@ -163,7 +183,7 @@ fn parts_boxes(
 {
     let mut caught = Caught::all(alloc, question.asked.family)?;
     for place in 0..keys.len() {
-        let more = thing_boxes(alloc, question, &keys[place], &values[place])?;
+        let more = thing_boxes(alloc, question, caught.kept(), &keys[place], &values[place])?;
         caught.take(alloc, false, &more)?;
     }
     Ok(caught)

@@ -36,6 +36,8 @@ pub struct Asked {
 pub(crate) struct Question<'k> {
     pub(crate) asked: Asked,
     pub(crate) assumed: &'k [u8],
+    /// Whether all packets that a rule catches so far are of protocols whose ports keys have.
+    pub(crate) ported: bool,
 }
 
 /// What is known where objects are read: the question, and the sets of the ruleset.

@@ -4,7 +4,7 @@ ghost use Rattle.std.specs.Prelude.{◌≡◌, ◌++◌, [], map, Some, None, Ok
 ghost use Rattle.std.specs.Prelude.{MatchResult};
 ghost use Rattle.std.specs.List.{list_any};
 ghost use Rattle.json.specs.Value.{value_view};
-ghost use Rattle.nft_reader.specs.Known.{known_of};
+ghost use Rattle.nft_reader.specs.Known.{known_of, question_of};
 ghost use Rattle.nft_reader.specs.Maps as maps;
 ghost use Rattle.nft_reader.specs.Stops.{RefusesRule};
 
@@ -236,7 +236,7 @@ impl Looking {
     {
         let family = question.asked.family;
         if is_rest(value) {
-            return match rest_box(family, key) {
+            return match rest_box(question, key) {
                 Some(packets) => {
                     self.put_rest(alloc, family, compared, packets, act)?;
                     Ok(())
@@ -291,22 +291,24 @@ fn branch_caught(
 }
 
 /// The packets that have what is compared.
-fn having(family: Family, side: Left) -> Option<Packets>
-    ensures { result ≡ maps.having family side }
+fn having(question: Question<'_>, side: Left) -> Option<Packets>
+    ensures { result ≡ maps.having (question_of question.entry) side }
 {
+    let family = question.asked.family;
     match side {
         Left::Plain(_) | Left::Address(_) | Left::Nfproto | Left::Interface(..) | Left::State =>
             Some(all_packets(family)),
         Left::Ports(number, _) => Some(protocol_packets(family, number)),
+        Left::AnyPorts(_) => question.ported.then_some(all_packets(family)),
         Left::OtherFamily => None,
     }
 }
 
 /// The packets that have one thing; of several it isn't said.
-fn rest_box(family: Family, key: &Value<'_>) -> Option<Packets>
-    ensures { result ≡ maps.rest_box family (value_view key.now) }
+fn rest_box(question: Question<'_>, key: &Value<'_>) -> Option<Packets>
+    ensures { result ≡ maps.rest_box (question_of question.entry) (value_view key.now) }
 {
-    having(family, left_of(family, key)?)
+    having(question, left_of(question.asked.family, key)?)
 }
 
 /// The element that stands for all others.

@@ -9,7 +9,7 @@ ghost use Rattle.nft_reader.specs.Stops.{RefusesRule};
 use crate::compared::is_of;
 use crate::comparison::Comparison;
 use crate::fault::{RuleKind, RuleStop};
-use crate::known::{Known, led_place};
+use crate::known::{Known, Question, led_place};
 use crate::maps::{Branch, looked_up};
 use crate::shapes::{len_of, only, text_in};
 use field_defs::Family;
@@ -107,6 +107,26 @@ impl Reading {
         self.compared
             .iter()
             .any(|comparison| comparison.names_other(TCP))
+    }
+
+    /// Whether a comparison leaves packets alone whose protocols have ports.
+    fn keeps_ported(&self) -> bool
+        ensures { result ≡ readings.keeps_ported self.now }
+    {
+        self.compared
+            .iter()
+            .any(|comparison| comparison.leaves_ported())
+    }
+
+    /// What is known after its comparisons.
+    pub(crate) fn told<'k, 's, 'a>(&self, known: Known<'k, 's, 'a>) -> Known<'k, 's, 'a>
+        ensures { known_of result ≡ readings.told (known_of known.entry) self.now }
+    {
+        let question = Question {
+            ported: self.keeps_ported(),
+            ..known.question
+        };
+        Known { question, ..known }
     }
 
     /// A verdict.
@@ -210,7 +230,7 @@ impl Reading {
         ensures err { IfErr result (RefusesRule (readings.with_map (known_of known.entry)
             (value_view said.now) self.old)) }
     {
-        let looking = looked_up(alloc, known, said, &self.compared)?;
+        let looking = looked_up(alloc, self.told(known), said, &self.compared)?;
         self.branches = looking.into_branches();
         self.looked = true;
         Ok(())

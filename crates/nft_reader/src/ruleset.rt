@@ -418,7 +418,12 @@ pub fn read_ruleset(
     if is_too_long(bytes) {
         return Err(whole_fault(ObjectKind::FileTooLong));
     }
-    read_text(alloc, bytes, Question { asked, assumed })
+    let question = Question {
+        asked,
+        assumed,
+        ported: false,
+    };
+    read_text(alloc, bytes, question)
 }
 
 /// Whether a ruleset has more bytes than it may have.

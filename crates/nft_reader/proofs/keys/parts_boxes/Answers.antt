@@ -6,6 +6,7 @@ use Rattle.json.specs.Value.{value_view}
 use Rattle.nft_reader.specs.Keys.{parts_boxes, thing_boxes}
 use Rattle.iptables_reader.specs.Packets.{CaughtBoxes, meets}
 use Rattle.nft_reader.specs.Known.{question_of}
+use Rattle.nft_reader.specs.Results.{◌>>=◌}
 use Rattle.nft_reader.specs.Stops.{RefusesRule}
 use Rattle.nft_reader.proofs.BoxSteps.{part_end, part_first, then_more, then_refused}
 use Rattle.nft_reader.proofs.keys.parts_boxes.Goals as goal
@@ -27,9 +28,12 @@ returns-in_err-more c =
     (left_is keys l.place key (omega arith) c.index-keys-place.is)
     ∙ ap (λ ys. parts_boxes question l.caught.kept (value_view key ∷ more_keys) (map value_view ys))
     (left_is values l.place value (omega (arith, c.requires)) c.index-values-place.is)
-    ∙ part_first question l.caught.kept (value_view key) (value_view value) more_keys more_values in
+    ∙ part_first question l.caught.kept (value_view key) (value_view value) more_keys more_values
+    ∙ ap (λ boxes. thing_boxes question boxes (value_view key) (value_view value)
+    >>= λ more. parts_boxes question (meets l.caught.kept more) more_keys more_values)
+    (sym c.kept.ensures) in
     let refused = subst (λ it. RefusesRule it stop) (sym all)
-    (then_refused (thing_boxes question (value_view key) (value_view value))
+    (then_refused (thing_boxes question c.kept.result.now (value_view key) (value_view value))
     (λ more. parts_boxes question (meets l.caught.kept more) more_keys more_values) stop
     c.in_err-more.ensures) in
     search (rules, refused)
@@ -50,7 +54,10 @@ loop-place-preserved c =
     ∙ ap (λ ys. parts_boxes question l.caught.kept (value_view key ∷ more_keys) (map value_view ys))
     (left_is values l.place value (omega (arith, c.requires)) c.index-values-place.is)
     ∙ part_first question l.caught.kept (value_view key) (value_view value) more_keys more_values
-    ∙ then_more (thing_boxes question (value_view key) (value_view value))
+    ∙ ap (λ boxes. thing_boxes question boxes (value_view key) (value_view value)
+    >>= λ more. parts_boxes question (meets l.caught.kept more) more_keys more_values)
+    (sym c.kept.ensures)
+    ∙ then_more (thing_boxes question c.kept.result.now (value_view key) (value_view value))
     (λ more. parts_boxes question (meets l.caught.kept more) more_keys more_values) _ c.in_ok-more.ensures
     ∙ ap (λ boxes. parts_boxes question boxes more_keys more_values)
     (ap (meets l.caught.kept) (sym c.deref.ensures.value)
