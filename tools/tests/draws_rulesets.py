@@ -13,6 +13,7 @@ from draws_iptables import assumed_of
 
 PORTS = draws_nft.PORTS
 PROTOCOLS = ("tcp", "udp", "icmp", "gre", "esp", 47, 253)
+PORTED, L4 = ("tcp", "udp", "sctp"), {"meta": {"key": "l4proto"}}
 STATES = ("new", "established", "related")
 # Addresses of which none is in another.
 APART = {"ip": ("10.1.2.3", {"range": ["10.1.2.4", "10.1.2.9"]}, {"prefix": {"addr": "10.2.0.0", "len": 16}}),
@@ -50,21 +51,24 @@ class Rules:
                                        (draws_nft.payload(transport, "dport"), "@ports")])
         return self.compared(left, ["==", "!="], name)
 
-    def elements(self):
-        """Elements of an address and a port, or of two addresses and a protocol."""
-        address = lambda: self.draw.choice(draws_nft.ADDRESSES[self.network])
-        if self.draw.random() < 0.3:
-            return [{"concat": [address(), address(), protocol]} for protocol in self.draw.sample(PROTOCOLS, 2)]
-        return [{"concat": [address(), port]} for port in self.draw.sample(PORTS, 2)]
+    def any_ports(self):
+        """A comparison of protocols that have ports, and one of their ports."""
+        ports = draws_nft.payload("th", self.draw.choice(["sport", "dport"]))
+        return [draws_nft.comparison(L4, "==", {"set": self.draw.sample(PORTED, 2)}),
+                self.compared(ports, ["==", "!="], draws_nft.some(self.draw, PORTS))]
 
     def together(self, transport):
-        """A comparison of several things together."""
-        found = self.draw.choice(["@pairs", {"set": self.elements()}])
-        several = {3: [draws_nft.payload(self.network, "saddr"), draws_nft.payload(self.network, "daddr"),
-                       {"meta": {"key": "l4proto"}}],
-                   2: [draws_nft.payload(self.network, "saddr"), draws_nft.payload(transport, "dport")]}
-        parts = 2 if found == "@pairs" else len(found["set"][0]["concat"])
-        return draws_nft.comparison({"concat": several[parts]}, "==", found)
+        """A comparison of several things together: an address and a port, two addresses and a protocol, or a protocol
+        and a port."""
+        source, destination = (draws_nft.payload(self.network, side) for side in ("saddr", "daddr"))
+        address = lambda: self.draw.choice(draws_nft.ADDRESSES[self.network])
+        ports, port = self.draw.sample(PORTS, 2), draws_nft.payload(transport, "dport")
+        keys, values = self.draw.choice([
+            ([source, port], None), ([source, port], [[address(), it] for it in ports]),
+            ([source, destination, L4], [[address(), address(), it] for it in self.draw.sample(PROTOCOLS, 2)]),
+            ([L4, draws_nft.payload("th", "dport")], list(zip(self.draw.sample(PORTED, 2), ports)))])
+        found = {"set": [{"concat": it} for it in values]} if values else "@pairs"
+        return draws_nft.comparison({"concat": keys}, "==", found)
 
     def looked_up(self, transport, later):
         """A map to verdicts, of which no two elements have packets in common; `*` is last, as nft lists it."""
@@ -86,12 +90,14 @@ class Rules:
         kind = {"ip": "ipv4_addr", "ip6": "ipv6_addr"}[self.network]
         addresses = self.draw.sample(draws_nft.ADDRESSES[self.network], 2)
         commented = [{"elem": {"val": addresses[0], "comment": "x"}}, addresses[1]]
+        counted = [{"elem": {"val": address, "counter": {"packets": 1, "bytes": 40}}} for address in addresses]
         pairs = [{"concat": [address, port]} for address, port in zip(addresses, self.draw.sample(PORTS, 2))]
-        for name, kinds, found in (("hosts", kind, self.draw.choice([addresses, commented])),
+        for name, kinds, found in (("hosts", kind, self.draw.choice([addresses, commented, counted])),
                                    ("ports", "inet_service", self.draw.choice([[], self.draw.sample(PORTS, 2)])),
                                    ("pairs", [kind, "inet_service"], pairs)):
             yield {"set": {**of, "name": name, "type": kinds, "handle": next(handles), "flags": ["interval"],
-                           **({"elem": found} if found else {})}}
+                           **({"elem": found} if found else {}),
+                           **({"stmt": [{"counter": None}]} if found is counted else {})}}
         yield {"set": {**of, "name": "seen", "type": kind, "handle": next(handles), "size": 100}}
         services = [[25, {"drop": None}], [{"range": [80, 90]}, {"accept": None}], ["*", {"return": None}]]
         yield {"map": {**of, "name": "services", "type": "inet_service", "handle": next(handles), "map": "verdict",
@@ -118,13 +124,15 @@ class Rules:
         kinds = [self.field, self.field, self.port, self.port, self.assumed, self.named, self.together]
         kinds += [self.other] * (self.table == "inet")
         found = [self.draw.choice(kinds)(transport) for _ in range(self.draw.randrange(4))]
+        if not found and self.draw.random() < 0.3:
+            found, transport = self.any_ports(), "th"
         if self.draw.random() < 0.05:
             source = draws_nft.payload(self.network, "saddr")
             return found + [{"set": {"op": "add", "elem": source, "set": "@seen"}}]
         if self.draw.random() < 0.2:
             return found + [self.looked_up(transport, later)]
         # A reset is refused where the protocol is one of several.
-        alone = transport if "l4proto" not in json.dumps(found) else None
+        alone = None if re.search('"(key|field)": "(l4proto|protocol)"', json.dumps(found)) else transport
         return found + draws_nft.verdict(self.draw, draws_nft.answers(self.table, self.network, alone), later)
 
 
@@ -133,9 +141,11 @@ def objects(draw, network):
     table, handles, chains = draw.choice([network, "inet"]), iter(range(1, 100)), ["input", "one", "two"]
     rules, of = Rules(draw, network, table), {"family": table, "table": "t"}
     found = [{"metainfo": {"version": "1.0.6"}}, {"table": {"family": table, "name": "t", "handle": 1}}]
-    found.append({"chain": {**of, "name": "input", "handle": next(handles), "type": "filter", "hook": "input",
-                            "prio": 0, "policy": draw.choice(["accept", "drop"])}})
-    found += [{"chain": {**of, "name": name, "handle": next(handles)}} for name in chains[1:]]
+    found += [{draw.choice(walk_nft.SILENT): {**of, "name": "o", "handle": next(handles)}}] * (draw.random() < 0.5)
+    comment = draw.choice([{}, {"comment": "x"}])
+    found.append({"chain": {**of, "name": "input", "handle": next(handles), **comment, "type": "filter",
+                            "hook": "input", "prio": 0, "policy": draw.choice(["accept", "drop"])}})
+    found += [{"chain": {**of, "name": name, "handle": next(handles), **comment}} for name in chains[1:]]
     found += rules.sets(of, handles)
     return found + [{"rule": {**of, "chain": chain, "handle": next(handles),
                               "expr": rules.expression(chains[place + 1:])}}
@@ -174,14 +184,15 @@ def reached_rules(listed):
 
 
 def read_part(text):
-    """What the program reads of a ruleset: no rules that packets don't come to, and sets and maps that the others name,
-    each once."""
+    """What the program reads of a ruleset: no rules that packets don't come to, and sets and maps that have names and
+    that the others name, each once."""
     listed, kept = json.loads(text)["nftables"], []
     rules = reached_rules(listed)
     named = set(re.findall('"@([^"]*)"', json.dumps(rules)))
     for it in listed:
         said = it.get("set", it.get("map"))
-        if it in rules or "rule" not in it and (said is None or said["name"] in named and it not in kept):
+        has_names = said is None or all(isinstance(said.get(key), str) for key in ("family", "table", "name"))
+        if it in rules or "rule" not in it and has_names and (said is None or said["name"] in named and it not in kept):
             kept.append(it)
     return json.dumps({"nftables": kept})
 

@@ -10,6 +10,8 @@ import json
 PROTOCOLS = {"tcp": 6, "udp": 17, "sctp": 132, "icmp": 1, "ipv6-icmp": 58, "gre": 47, "esp": 50, "ah": 51, "ipip": 94,
              "igmp": 2}
 QUIET = ("counter", "log")
+# Objects that do nothing until a rule names them.
+SILENT = ("counter", "quota", "limit", "ct helper", "ct timeout", "ct expectation", "synproxy", "secmark", "flowtable")
 ENDING = ("accept", "drop", "reject", "return", "continue")
 
 
@@ -46,6 +48,12 @@ def number_of(value, kind):
     return value
 
 
+def of_any_transport(left):
+    """Whether ports are compared of whatever transport protocol."""
+    name, said = only(left)
+    return name == "payload" and said["protocol"] == "th"
+
+
 class Missing(Exception):
     """What is compared isn't in the packet, so that the rule ends."""
 
@@ -68,14 +76,14 @@ class Judge:
 
     def add(self, kind, said, tables, handles):
         """Takes one object."""
-        require(kind in ("metainfo", "table", "chain", "rule", "set", "map"), kind)
-        if kind == "metainfo":
+        require(kind in ("metainfo", "table", "chain", "rule", "set", "map", *SILENT), kind)
+        if kind in ("metainfo", *SILENT):
             return
         table = said.get("family"), said.get("name" if kind == "table" else "table")
         require((table in tables) == (kind != "table"), table)
-        require((table, said.get("handle")) not in handles or kind == "table", said)
         tables.add(table)
         if kind in ("chain", "rule"):
+            require((table, said["handle"]) not in handles, said)
             handles.add((table, said["handle"]))
         key = (*table, said.get("chain" if kind == "rule" else "name"))
         if kind == "chain":
@@ -87,7 +95,8 @@ class Judge:
             require(key in self.rules and isinstance(said["expr"], list), said)
             self.rules[key].append(said)
         elif kind in ("set", "map"):
-            require(key not in self.sets and not set(said.get("flags", [])) & {"dynamic", "timeout"}, said)
+            require(key not in self.sets and not set(said.get("flags", [])) & {"dynamic", "timeout"}
+                    and all(only(it)[0] == "counter" for it in said.get("stmt", [])), said)
             self.sets[key] = said
 
     def only_chain(self, name):
@@ -203,7 +212,8 @@ class Judge:
         """Ends the rule where the packet hasn't what is compared."""
         name, said = only(left)
         for one in said if name == "concat" else [left]:
-            self.of_packet(one, fields)
+            if one is left or not of_any_transport(one):
+                self.of_packet(one, fields)
 
     def equals(self, left, value, key, fields):
         """Whether what is compared is an element of a set."""
@@ -214,7 +224,10 @@ class Judge:
         if name == "concat":
             parts = only(value)
             require(parts[0] == "concat" and len(parts[1]) == len(said), value)
-            return all([self.equals(one, it, key, fields) for one, it in zip(said, parts[1])])
+            # What stands at the place of ports is asked for last, since not each packet has ports there.
+            pairs = sorted(zip(said, parts[1]), key=lambda pair: of_any_transport(pair[0]))
+            met = [self.equals(one, it, key, fields) for one, it in pairs if not of_any_transport(one)]
+            return all(met) and all([self.equals(one, it, key, fields) for one, it in pairs[len(met):]])
         number, kind = self.of_packet(left, fields)
         if kind == "name":
             require(isinstance(value, str), value)
