@@ -13,7 +13,7 @@ ghost use Rattle.lane_walk.specs.Fleet.{GoesOn, IsAcross, StaysIn, over_bit, wor
 
 use crate::fleet::Fleet;
 use crate::flights::{AT_ONCE, words_at};
-use scalar_walk::{halves_of, places_after};
+use scalar_walk::{four_of, halves_of, places_after, put_four};
 use std::simd::u32x4;
 
 /// The low half of the least word that ends a walk.
@@ -30,31 +30,6 @@ pub(crate) struct Walks<const W: usize> {
     pub(crate) ats: [u32; W],
     /// These bytes, which are read a turn ahead.
     pub(crate) bytes: [u32; W],
-}
-
-/// Four of the numbers, from one on.
-#[inline]
-fn four_of<const W: usize>(numbers: &[u32; W], first: usize) -> u32x4
-    requires { first + AT_ONCE ≤ W }
-    ensures len { length result ≡ AT_ONCE }
-    ensures four { (k : ℕ) → k < AT_ONCE →
-        slice_index result k ≡ slice_index numbers.now (first + k) }
-{
-    let numbers = &numbers[..];
-    u32x4::from_slice(&numbers[first..])
-}
-
-/// Makes four of the numbers these, from one on.
-#[inline]
-fn put_four<const W: usize>(numbers: &mut [u32; W], first: usize, four: u32x4)
-    requires { first + AT_ONCE ≤ W }
-    ensures four { (k : ℕ) → k < AT_ONCE →
-        slice_index numbers.new (first + k) ≡ slice_index four k }
-    ensures others { (i : ℕ) → (i < first) ⊎ (first + AT_ONCE ≤ i) →
-        slice_index numbers.new i ≡ slice_index numbers.old i }
-{
-    let numbers = &mut numbers[..];
-    four.copy_to_slice(&mut numbers[first..]);
 }
 
 /// Four of the words, from one on.

@@ -11,7 +11,7 @@
 //! - `walk`: one key through one trie.
 //! - `side_by_side`: two to four keys through one trie.
 //! - `in_step`: up to sixteen keys through one trie, in step.
-//! - `wide`: up to sixty-four of them, where the table is large.
+//! - `wide`: up to sixty-four of them, which close ranks as walks end.
 //! - `vectors`: one step of four of them, by vectors of four lanes.
 //! - `kinds`: the kinds of words, as `walk` tests them.
 //! - `words`: how walks take words of a table.
@@ -34,5 +34,5 @@ mod wide;
 mod words;
 
 pub use classify::{classify_scalar, classify_scalar_marked, winners};
-pub use vectors::{four_places, halves_of, places_after};
+pub use vectors::{four_of, four_places, halves_of, places_after, put_four};
 pub use walk::{Walked, walk_one};

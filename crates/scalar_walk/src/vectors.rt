@@ -14,7 +14,7 @@
 //! After DPDK's `lib/acl/acl_run_sse.h`, whose vectors have four lanes too.
 
 ghost use Rattle.std.specs.Prelude.{◌≡◌, ℕ, ◌+◌, ◌-◌, ◌*◌, ◌/◌, ◌%◌, ◌<◌, ◌≤◌, ◌^◌, ◌==◌, true, length};
-ghost use Rattle.std.specs.Prelude.{slice_index, All, min, if◌then◌else◌, nat_lt, ◌&&◌, false};
+ghost use Rattle.std.specs.Prelude.{slice_index, All, min, if◌then◌else◌, nat_lt, ◌&&◌, false, ◌⊎◌};
 ghost use Rattle.table_sizes.specs.Groups.{max_key_len};
 ghost use Rattle.flat_table.specs.Word.{full, indexes, quad, is_node, next_place};
 ghost use Rattle.scalar_walk.specs.Lanes.{IsEnded, IsGroupLen, counted, counts, ended, word_in};
@@ -28,10 +28,10 @@ use std::simd::{u8x16, u32x4, u64x2};
 use std::sync::ledger::Ledger;
 
 /// The bits of the index.
-const INDEX_MASK: u32 = flat_table::INDEX_MASK as u32;
+pub(crate) const INDEX_MASK: u32 = flat_table::INDEX_MASK as u32;
 
 /// The low half of the least word that ends a walk.
-const ENDED: u32 = 0x8000_0000;
+pub(crate) const ENDED: u32 = 0x8000_0000;
 
 /// The places of the first bytes of four groups of four, each four times.
 #[inline]
@@ -203,6 +203,34 @@ pub fn four_places(words: &[u64; 4], bytes: &[u8; 4]) -> [u32; 4]
 {
     let (lows, highs) = halves_of(words);
     next_places(lows, highs, spread(bytes)).to_array()
+}
+
+/// Four of the numbers, from one on.
+///
+/// It refuses nothing and takes no memory.
+#[inline]
+pub fn four_of<const W: usize>(numbers: &[u32; W], first: usize) -> u32x4
+    requires { first + 4 ≤ W }
+    ensures len { length result ≡ 4 }
+    ensures four { (k : ℕ) → k < 4 → slice_index result k ≡ slice_index numbers.now (first + k) }
+{
+    let numbers = &numbers[..];
+    u32x4::from_slice(&numbers[first..])
+}
+
+/// Makes four of the numbers these, from one on.
+///
+/// It refuses nothing and takes no memory.
+#[inline]
+pub fn put_four<const W: usize>(numbers: &mut [u32; W], first: usize, four: u32x4)
+    requires { first + 4 ≤ W }
+    ensures four { (k : ℕ) → k < 4 → slice_index numbers.new (first + k) ≡ slice_index four k }
+    ensures small { (k : ℕ) → k < 4 → slice_index numbers.new (first + k) < 2 ^ 32 }
+    ensures others { (i : ℕ) → (i < first) ⊎ (first + 4 ≤ i) →
+        slice_index numbers.new i ≡ slice_index numbers.old i }
+{
+    let numbers = &mut numbers[..];
+    four.copy_to_slice(&mut numbers[first..]);
 }
 
 /// Four walks: the halves of the words at which they stand, and how many words each has taken.
