@@ -1,5 +1,5 @@
 //! A flow machine by lanes whose turns note the words to which the walks come, and join no rows.
-//! Where four lanes are busy, none of them asks again.
+//! Where four lanes are busy, their words are taken together.
 
 ghost use Rattle.std.specs.Prelude.{◌≡◌, ℕ, ◌+◌, ◌*◌, ◌<◌, ◌≤◌, length, drop, true, false, None};
 ghost use Rattle.std.specs.Prelude.{slice_index_or};
@@ -186,7 +186,7 @@ impl<const W: usize> LaneFlows<W> {
     }
 
     /// A step of each of four lanes, from one on and in order, and how many of them were busy
-    /// before. Mostly all four are, and then no lane asks again.
+    /// before. Mostly all four are, and then their words are taken together.
     #[inline]
     fn note_group(&mut self, table: &Table, keys: &[u8], scratch: &mut Scratch, first: usize) -> u32
         requires width { W ≤ 16 }
