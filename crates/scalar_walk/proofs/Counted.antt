@@ -6,7 +6,7 @@ use Rattle.scalar_walk.specs.Lanes.{counted, counts, ended, sum_below}
 use Rattle.scalar_walk.proofs.Below.{sum_agree, sum_both, sum_more, sum_none, sum_split, sum_zero}
 
 -- the sum over four lanes
-four_of : (f : ℕ → ℕ) → sum_below f 4 ≡ f 0 + f 1 + f 2 + f 3
+pub four_of : (f : ℕ → ℕ) → sum_below f 4 ≡ f 0 + f 1 + f 2 + f 3
 four_of f = omega (arith, sum_more f 3, sum_more f 2, sum_more f 1, sum_more f 0, sum_none f)
 
 -- what one lane took is more by what it is counted

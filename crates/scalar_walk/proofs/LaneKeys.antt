@@ -1,7 +1,7 @@
 -- Which keys lanes walk, and which lanes have a key of their own.
-use Rattle.std.proofs.Common.{◌≡◌, ℕ, ◌+◌, ◌-◌, ◌<◌, ◌≤◌, sym, ap, ◌∙◌, arith}
+use Rattle.std.proofs.Common.{◌≡◌, ℕ, ◌+◌, ◌-◌, ◌*◌, ◌<◌, ◌≤◌, sym, ap, ◌∙◌, arith, inl, inr}
 use Rattle.std.proofs.lemmas.Bool.Decides.{nat_tests}
-use Rattle.scalar_walk.specs.Lanes.{lane_key, own_lanes, sum_below}
+use Rattle.scalar_walk.specs.Lanes.{HasRoom, lane_key, own_lanes, sum_below}
 use Rattle.scalar_walk.proofs.Below.{sum_agree, sum_none, sum_split}
 
 -- a lane walks a key that is there
@@ -73,3 +73,18 @@ pub own_of_fours : (count : ℕ) → count ≤ 16 →
     own_lanes count 0 + own_lanes count 4 + own_lanes count 8 + own_lanes count 12 ≡ count
 own_of_fours count few =
     omega (arith, few, own_rest count 0, own_rest count 4, own_rest count 8, own_rest count 12)
+
+-- numbers for so many keys that are walked together have a lawful size
+pub room_fits : {room count : ℕ} → HasRoom room count →
+    (room * 32 < 9223372036854775808) × (room * 4 < 9223372036854775808)
+room_fits r = elim r.of [
+  | inl sixteen ↦ (omega (arith, sixteen), omega (arith, sixteen))
+  | inr wide ↦ (omega (arith, wide), omega (arith, wide))
+]
+
+-- at most sixty-four keys are walked together
+pub room_few : {room count : ℕ} → HasRoom room count → count ≤ 64
+room_few {room = room} {count = count} r = elim r.of [
+  | inl sixteen ↦ omega (arith, r.few, sixteen)
+  | inr wide ↦ omega (arith, r.few, wide)
+]

@@ -13,10 +13,14 @@ use Rattle.flat_table.proofs.Offered.{Stands, begins, ends_at_match, row_at_matc
 use Rattle.scalar_walk.specs.Lanes.{lane_key, sum_below}
 use Rattle.scalar_walk.specs.Rows.{EndsAt, walks_below}
 use Rattle.scalar_walk.proofs.Below.{sum_more, sum_none}
-use Rattle.scalar_walk.proofs.InStep.{SomeKeys, key_of}
+use Rattle.scalar_walk.proofs.LaneWalks.{SomeKeys}
 use Rattle.scalar_walk.proofs.LaneKeys.{lane_own, lane_within}
 use Rattle.scalar_walk.proofs.Walks.{leads_to_node}
 use Rattle.scalar_walk.proofs.Ways.{Way, IsWay, Step, step, count_of_places, place_in_key}
+
+-- the key that a lane walks of so many
+abbrev pub key_of : Way → List ℕ → ℕ → ℕ → List ℕ
+key_of way keys count lane = key_at way.table keys (lane_key count lane)
 
 -- a walk of a lane's key, if it is there, stands at the word after n bytes
 pub record Side (there : Bool) (way : Way) (keys : List ℕ) (count lane n word : ℕ) : Type 0 where

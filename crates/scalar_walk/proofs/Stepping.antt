@@ -1,7 +1,6 @@
 -- A lane before and after a step.
 use Rattle.std.proofs.Common.{◌≡◌, ℕ, ◌+◌, ◌*◌, ◌%◌, ◌<◌, ◌≤◌, ◌^◌, ltb, cond, true, false, List, ap, ◌∙◌, arith}
 use Rattle.std.proofs.Common.{inl, inr, Bool}
-use Rattle.table_sizes.specs.Groups.{max_key_len}
 use Rattle.std.specs.Prelude.{slice_index}
 use Rattle.std.proofs.lemmas.Bool.{cases_Bool}
 use Rattle.std.proofs.lemmas.Bool.Decides.{nat_tests}
@@ -23,7 +22,7 @@ node_is_small low high small node =
     grind (arith, nat_tests, few)
 
 -- a count of words that is small rises by one or none
-pub no_wrap : (taken : ℕ) (goes : Bool) {new : ℕ} → taken < max_key_len → new ≡ (taken + cond goes 1 0) % 2 ^ 32 →
+pub no_wrap : (taken : ℕ) (goes : Bool) {new : ℕ} → taken < 2 ^ 31 → new ≡ (taken + cond goes 1 0) % 2 ^ 32 →
     new ≡ taken + cond goes 1 0
 no_wrap taken true few is = omega (arith, few, is)
 no_wrap taken false few is = omega (arith, few, is)

@@ -1,10 +1,9 @@
 -- What rows that were reached say of a category.
-use Rattle.std.specs.Prelude.{◌≡◌, ℕ, ◌+◌, ◌<◌, ◌%◌, List, [], map, length, slice_index, flat_map}
+use Rattle.std.specs.Prelude.{◌≡◌, ℕ, ◌+◌, ◌<◌, ◌%◌, ◌^◌, List, [], map, length, slice_index, flat_map}
 use Rattle.std.specs.Prelude.{slice_index_or, Bool, false, true, not, ◌==◌, if◌then◌else◌}
 use Rattle.std.specs.List.{range_with_len}
 use Rattle.flat_table.specs.Table.{TableView}
 use Rattle.table_sizes.specs.Sizes.{max_tries, row_len}
-use Rattle.table_sizes.specs.Groups.{max_key_len}
 use Rattle.flat_table.specs.Word.{is_match, is_node, next_place}
 use Rattle.flat_table.specs.Walk.{greatest, joined, userdatas, walk_row, moved, walk_transitions}
 use Rattle.flat_table.specs.Walk.{key_transitions}
@@ -63,7 +62,7 @@ pub record CanGoOn (words : List ℕ) (word byte taken : ℕ) : Type 0 where
   pub some : 0 < length words
   pub node : is_match word ≡ false → is_node word ≡ true
   pub in_words : is_match word ≡ false → next_place word byte < length words
-  pub few : taken < max_key_len
+  pub few : taken < 2 ^ 31
 
 -- A walk that stands at the word goes on by the byte. The next word is the one that stands then,
 -- and the count of words that it took is raised by one, unless the word is a match.
@@ -81,7 +80,7 @@ pub record ReadsAt (word byte at : ℕ) : Type 0 where
 pub record CanTake (words : List ℕ) (word at taken : ℕ) : Type 0 where
   pub node : is_match word ≡ false → is_node word ≡ true
   pub there : at < length words
-  pub few : taken < max_key_len
+  pub few : taken < 2 ^ 31
 
 -- A walk that stands at the word takes that at the place, and one more is counted. At a match it
 -- stays.

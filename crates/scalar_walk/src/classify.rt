@@ -15,7 +15,7 @@ ghost use Rattle.scalar_walk.specs.Rows.{winners_of, batch_winners};
 
 use crate::in_step::IN_STEP;
 use crate::walk::walk_one;
-use crate::wide::{ENOUGH, WIDE, is_far, walk_keys};
+use crate::wide::{ENOUGH, WIDE, walk_keys};
 use flat_table::{Steps, Table, userdata_of};
 use rule_set::Categories;
 use std::marker::Brand;
@@ -42,20 +42,14 @@ struct Asked {
     marks: usize,
 }
 
-/// How many keys after so many of a batch are walked next: up to sixty-four if the table is far and
-/// enough are left, and else up to sixteen.
-fn next_keys(done: usize, all: usize, far: bool) -> usize
+/// How many keys after so many of a batch are walked next: up to sixty-four.
+fn next_keys(done: usize, all: usize) -> usize
     requires { done < all }
     ensures some { 0 < result }
     ensures few { result ≤ WIDE }
     ensures within { done + result ≤ all }
 {
-    let left = all - done;
-    if far && left >= ENOUGH {
-        left.min(WIDE)
-    } else {
-        left.min(IN_STEP)
-    }
+    (all - done).min(WIDE)
 }
 
 /// Marks the category exactly if its word isn't 0, where there is room for the mark.
@@ -323,7 +317,7 @@ fn classify_part<L: Ledger>(
     ensures bound { result ≤ count * (max_tries * max_key_len) }
     ensures steps { steps.new ≡ steps.old + result }
 {
-    if count > IN_STEP {
+    if count >= ENOUGH {
         classify_some::<WIDE, L>(table, keys, count, asked, verdicts, won, steps)
     } else {
         classify_some::<IN_STEP, L>(table, keys, count, asked, verdicts, won, steps)
@@ -392,10 +386,9 @@ fn classify_keys<L: Ledger>(
     }
     let (count, marks) = (asked.count, asked.marks);
     let n = keys.len() / key_len;
-    let far = is_far(table);
     let (mut k, mut taken) = (0, 0);
     while k < n {
-        let m = next_keys(k, n, far);
+        let m = next_keys(k, n);
         let part = &keys[k * key_len..(k + m) * key_len];
         let verdicts = &mut out[k * count..(k + m) * count];
         let marked = &mut won[k * marks..(k + m) * marks];

@@ -12,7 +12,6 @@ ghost use Rattle.scalar_walk.specs.Rows.{CanGoOn, EndsAt, GoesOn, walks_below};
 use crate::side_by_side::walk_side_by_side;
 use crate::vectors::{Four, begin, groups_at, is_one_on_way, step, words_taken, write_ends};
 use crate::walk::walk_one;
-use crate::wide::WIDE;
 use flat_table::laws::walks_stay;
 use flat_table::{Steps, Table};
 use std::simd::u8x16;
@@ -51,37 +50,31 @@ pub(crate) fn group_len(places: &[u16], n: usize) -> usize
 }
 
 /// Where the bytes of the key begin that a lane walks: its own, or the last of so many keys where
-/// there are no more. All lanes may be known to have their own.
+/// there are no more. It may be known to have its own.
 #[inline]
-pub(crate) fn begin_of<const ALL: bool>(keys: &[u8], lane: usize, count: usize, len: usize) -> usize
+pub(crate) fn begin_of<const OWN: bool>(keys: &[u8], lane: usize, count: usize, len: usize) -> usize
     requires some { 0 < count }
-    requires all { ALL ≡ true → lane < count }
+    requires own { OWN ≡ true → lane < count }
     requires keys { length keys.now ≡ count * len }
     ensures { result ≡ lane_key count lane * len }
 {
-    let key = if ALL { lane } else { lane.min(count - 1) };
+    let key = if OWN { lane } else { lane.min(count - 1) };
     key * len
 }
 
 /// Where the bytes of the keys begin that four lanes walk, from one on.
 #[inline]
-pub(crate) fn begins<const ALL: bool>(
-    keys: &[u8],
-    first: usize,
-    count: usize,
-    len: usize,
-) -> [usize; 4]
+fn begins(keys: &[u8], first: usize, count: usize, len: usize) -> [usize; 4]
     requires some { 0 < count }
-    requires lanes { first + 4 ≤ WIDE }
-    requires all { ALL ≡ true → first + 4 ≤ count }
+    requires lanes { first + 4 ≤ IN_STEP }
     requires keys { length keys.now ≡ count * len }
     ensures { (i : ℕ) → i < 4 → slice_index result i ≡ lane_key count (first + i) * len }
 {
     [
-        begin_of::<ALL>(keys, first, count, len),
-        begin_of::<ALL>(keys, first + 1, count, len),
-        begin_of::<ALL>(keys, first + 2, count, len),
-        begin_of::<ALL>(keys, first + 3, count, len),
+        begin_of::<false>(keys, first, count, len),
+        begin_of::<false>(keys, first + 1, count, len),
+        begin_of::<false>(keys, first + 2, count, len),
+        begin_of::<false>(keys, first + 3, count, len),
     ]
 }
 
@@ -201,7 +194,7 @@ fn is_left<const FOURS: usize>(
 /// once all walks have ended: if few packets match a rule, that is early. It is not inlined, so
 /// that its loop has all registers, whatever stands around the call.
 #[inline(never)]
-pub(crate) fn walk_in_step<const FOURS: usize, const ALL: bool, L: Ledger>(
+pub(crate) fn walk_in_step<const FOURS: usize, L: Ledger>(
     table: &Table,
     trie: usize,
     keys: &[u8],
@@ -212,7 +205,6 @@ pub(crate) fn walk_in_step<const FOURS: usize, const ALL: bool, L: Ledger>(
     requires trie { trie < length table.now.roots }
     requires keys { length keys.now ≡ count * table.now.key_len }
     requires lanes { HasLanes FOURS count }
-    requires all { ALL ≡ true → count ≡ IN_STEP }
     requires room { IN_STEP ≤ length rows.old }
     ensures rows { (k : ℕ) → k < count →
         EndsAt table.now trie (key_at table.now keys.now k) (slice_index rows.new k) }
@@ -223,10 +215,10 @@ pub(crate) fn walk_in_step<const FOURS: usize, const ALL: bool, L: Ledger>(
     walks_stay();
     let words = table.words();
     let len = table.key_len();
-    let at_first = begins::<ALL>(keys, 0, count, len);
-    let at_second = begins::<ALL>(keys, 4, count, len);
-    let at_third = begins::<ALL>(keys, 8, count, len);
-    let at_fourth = begins::<ALL>(keys, 12, count, len);
+    let at_first = begins(keys, 0, count, len);
+    let at_second = begins(keys, 4, count, len);
+    let at_third = begins(keys, 8, count, len);
+    let at_fourth = begins(keys, 12, count, len);
     let root = table.root(trie);
     let walks = begin(root);
     let (own_first, own_second) = (lanes_of(0, count), lanes_of(4, count));
@@ -301,14 +293,12 @@ pub(crate) fn walk_some<L: Ledger>(
     ensures limit { result ≤ count * max_key_len }
     ensures steps { steps.new ≡ steps.old + result }
 {
-    if count == IN_STEP {
-        walk_in_step::<4, true, L>(table, trie, keys, count, rows, steps)
-    } else if count > 12 {
-        walk_in_step::<4, false, L>(table, trie, keys, count, rows, steps)
+    if count > 12 {
+        walk_in_step::<4, L>(table, trie, keys, count, rows, steps)
     } else if count > 8 {
-        walk_in_step::<3, false, L>(table, trie, keys, count, rows, steps)
+        walk_in_step::<3, L>(table, trie, keys, count, rows, steps)
     } else if count > 4 {
-        walk_in_step::<2, false, L>(table, trie, keys, count, rows, steps)
+        walk_in_step::<2, L>(table, trie, keys, count, rows, steps)
     } else if count == 4 {
         walk_side_by_side::<true, true, L>(table, trie, keys, count, rows, steps)
     } else if count == 3 {

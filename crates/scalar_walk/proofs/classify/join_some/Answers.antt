@@ -6,7 +6,7 @@ use Rattle.scalar_walk.specs.Rows.{key_winners}
 use Rattle.scalar_walk.proofs.Batches.{verdicts_len, winners_len}
 use Rattle.scalar_walk.proofs.Below.{pieces_none, one_piece, all_pieces}
 use Rattle.scalar_walk.proofs.Reached.{rows_there, verdicts_are, winners_are}
-use Rattle.scalar_walk.proofs.WideSteps.{room_fits}
+use Rattle.scalar_walk.proofs.LaneKeys.{room_fits}
 use Rattle.scalar_walk.proofs.classify.join_some.Goals as goal
 
 pub reach_some-taken-requires : goal.reach_some-taken-requires

@@ -9,7 +9,7 @@ use Rattle.scalar_walk.specs.Rows.{Reaches}
 use Rattle.scalar_walk.proofs.Below.{sum_agree, sum_both, sum_zero}
 use Rattle.scalar_walk.proofs.Reached.{reaches_none, reaches_more, first_tries_transitions, first_tries_more}
 use Rattle.table_sizes.specs.Sizes.{max_tries}
-use Rattle.scalar_walk.proofs.WideSteps.{room_few, room_fits}
+use Rattle.scalar_walk.proofs.LaneKeys.{room_few, room_fits}
 use Rattle.scalar_walk.proofs.classify.reach_some.Goals as goal
 
 pub loop-trie-init : goal.loop-trie-init

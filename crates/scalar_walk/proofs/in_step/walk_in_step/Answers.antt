@@ -5,7 +5,8 @@ use Rattle.flat_table.specs.Batch.{key_at}
 use Rattle.scalar_walk.specs.Lanes.{own_lanes, sum_below}
 use Rattle.scalar_walk.specs.Rows.{EndsAt}
 use Rattle.scalar_walk.proofs.Ways.{IsWay}
-use Rattle.scalar_walk.proofs.InStep.{SomeKeys, way_of, begins_are, four_begin, lane_ends, lane_took}
+use Rattle.scalar_walk.proofs.InStep.{way_of, begins_are, four_begin, lane_ends, own_took}
+use Rattle.scalar_walk.proofs.LaneWalks.{SomeKeys}
 use Rattle.scalar_walk.proofs.InStep.{bytes_in_keys, group_begins, group_ready, group_went, group_ends}
 use Rattle.scalar_walk.proofs.InStep.{lane_took_few, each_of_fours, four_over}
 use Rattle.scalar_walk.proofs.Below.{sum_agree}
@@ -270,22 +271,22 @@ returns-clause-taken g c =
           (λ i h. let own : 0 + i < count = own_below count 0 i h in
           let few : i < 4 = omega (arith, h, own_few count 0) in
           let there : 0 < g.row.FOURS = omega (arith, own, lanes.enough) in
-          lane_took (w.0 there) (four_over (w.0 there) w.4 (over.first done) there) i few own),
+          own_took (w.0 there) (four_over (w.0 there) w.4 (over.first done) there) i few own),
       sum_agree (λ i. slice_index c.loop-words.second.taken i) (λ i. t (4 + i)) (own_lanes count 4)
           (λ i h. let own : 4 + i < count = own_below count 4 i h in
           let few : i < 4 = omega (arith, h, own_few count 4) in
           let there : 1 < g.row.FOURS = omega (arith, own, lanes.enough) in
-          lane_took (w.1 there) (four_over (w.1 there) w.4 (over.second done) there) i few own),
+          own_took (w.1 there) (four_over (w.1 there) w.4 (over.second done) there) i few own),
       sum_agree (λ i. slice_index c.loop-words.third.taken i) (λ i. t (8 + i)) (own_lanes count 8)
           (λ i h. let own : 8 + i < count = own_below count 8 i h in
           let few : i < 4 = omega (arith, h, own_few count 8) in
           let there : 2 < g.row.FOURS = omega (arith, own, lanes.enough) in
-          lane_took (w.2 there) (four_over (w.2 there) w.4 (over.third done) there) i few own),
+          own_took (w.2 there) (four_over (w.2 there) w.4 (over.third done) there) i few own),
       sum_agree (λ i. slice_index c.loop-words.fourth.taken i) (λ i. t (12 + i)) (own_lanes count 12)
           (λ i h. let own : 12 + i < count = own_below count 12 i h in
           let few : i < 4 = omega (arith, h, own_few count 12) in
           let there : 3 < g.row.FOURS = omega (arith, own, lanes.enough) in
-          lane_took (w.3 there) (four_over (w.3 there) w.4 (over.fourth done) there) i few own),
+          own_took (w.3 there) (four_over (w.3 there) w.4 (over.fourth done) there) i few own),
       sum_of_fours t count (omega (arith, lanes.enough, lanes.few)),
     )
 

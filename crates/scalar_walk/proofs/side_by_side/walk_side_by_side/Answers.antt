@@ -2,7 +2,8 @@ use Rattle.std.proofs.Common.{ℕ, List, length, arith, ap, ◌∙◌, ◌&&◌,
 use Rattle.table_sizes.specs.Groups.{max_key_len}
 use Rattle.flat_table.specs.Word.{is_match}
 use Rattle.scalar_walk.proofs.Ways.{IsWay}
-use Rattle.scalar_walk.proofs.InStep.{SomeKeys, way_of}
+use Rattle.scalar_walk.proofs.InStep.{way_of}
+use Rattle.scalar_walk.proofs.LaneWalks.{SomeKeys}
 use Rattle.scalar_walk.proofs.Sides.{at_most_one, rows_of, side_byte, side_node, side_there, sides_begin, sides_end}
 use Rattle.scalar_walk.proofs.Sides.{sides_few, sides_go, sides_limit, sides_more, sides_took, so_many}
 use Rattle.scalar_walk.proofs.Sides.{two_keys}

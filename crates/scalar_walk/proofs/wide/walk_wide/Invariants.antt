@@ -1,23 +1,28 @@
--- all walks have read the bytes at the places so far
-use Rattle.std.proofs.Common.{◌≡◌, ℕ, [], ◌+◌, ◌-◌, ◌*◌, ◌<◌, ◌≤◌, length}
-use Rattle.std.specs.Prelude.{slice_index_or}
-use Rattle.flat_table.specs.Table.{places_of}
-use Rattle.scalar_walk.specs.Wide.{all_taken, four_at}
-use Rattle.scalar_walk.proofs.InStep.{FourRead, FourWalks, way_of}
+-- all walks have read the bytes at the places so far, their transitions are counted, and all but the first have ended
+use Rattle.std.proofs.Common.{◌≡◌, ℕ, ◌+◌, ◌-◌, ◌*◌, ◌<◌, ◌≤◌, length}
+use Rattle.std.specs.Prelude.{slice_index}
+use Rattle.scalar_walk.specs.Wide.{together}
+use Rattle.scalar_walk.proofs.InStep.{way_of}
+use Rattle.scalar_walk.proofs.Ranks.{AreRead, Ranks, all_took, fours_of}
 use Rattle.scalar_walk.proofs.wide.walk_wide.Given as goal
 
-abbrev pub invariant-loop-words : goal.invariant-loop-words
-invariant-loop-words g l =
-    ((f : ℕ) → f < 16 →
-    FourWalks (way_of l.table l.trie l.places l.words) l.keys l.count (4 * f) l.n (four_at l.walks f))
+abbrev pub invariant-loop-n : goal.invariant-loop-n
+invariant-loop-n g l =
+    Ranks (way_of l.table l.trie l.places l.words) l.keys l.count l.left l.n l.lanes l.rows
     × (l.n ≤ length l.places)
-    × (l.steps ≡ l.fn.steps + all_taken l.count l.walks)
+    × (length l.rows ≡ 64)
+    × (together l.taken ≡ all_took (way_of l.table l.trie l.places l.words) l.keys l.count l.n)
+    × ((i : ℕ) → i < 4 → slice_index l.taken i ≤ 16 * l.n)
+    × (l.steps ≡ l.fn.steps + together l.taken)
 
-abbrev pub decreases-loop-words : goal.decreases-loop-words
-decreases-loop-words g l = length (places_of l.table l.trie) - l.n
+abbrev pub decreases-loop-n : goal.decreases-loop-n
+decreases-loop-n g l = length l.places - l.n
 
 abbrev pub invariant-loop-place : goal.invariant-loop-place
 invariant-loop-place g l =
-    ((f : ℕ) → f < 16 → FourRead (way_of l.table l.trie l.places l.words) l.keys l.count (4 * f) l.n l.read
-    (slice_index_or l.groups f []) l.place (four_at l.walks f))
-    × (l.steps ≡ l.fn.steps + all_taken l.count l.walks)
+    Ranks (way_of l.table l.trie l.places l.words) l.keys l.count l.left (l.n + l.place) l.lanes l.rows
+    × AreRead (way_of l.table l.trie l.places l.words) l.keys (fours_of l.left) l.n l.read l.lanes.keys l.groups
+    × (length l.rows ≡ 64)
+    × (together l.taken ≡ all_took (way_of l.table l.trie l.places l.words) l.keys l.count (l.n + l.place))
+    × ((i : ℕ) → i < 4 → slice_index l.taken i ≤ 16 * (l.n + l.place))
+    × (l.steps ≡ l.fn.steps + together l.taken)
