@@ -136,7 +136,7 @@ enum {
 
 /* How keys are walked through a table. Both give the same answers, so choose by measuring. */
 enum {
-    ACLC_WALK_SCALAR = 0, /* each key for itself, sixteen in step */
+    ACLC_WALK_SCALAR = 0, /* each key for itself, many in step */
     ACLC_WALK_LANES = 1   /* by a machine of eight lanes, which needs room for each key */
 };
 
