@@ -15,7 +15,7 @@ ghost use Rattle.scalar_walk.specs.Rows.{winners_of, batch_winners};
 
 use crate::in_step::IN_STEP;
 use crate::walk::walk_one;
-use crate::wide::{ENOUGH, WIDE, walk_keys};
+use crate::wide::{WIDE, walk_keys};
 use flat_table::{Steps, Table, userdata_of};
 use rule_set::Categories;
 use std::marker::Brand;
@@ -317,7 +317,8 @@ fn classify_part<L: Ledger>(
     ensures bound { result ≤ count * (max_tries * max_key_len) }
     ensures steps { steps.new ≡ steps.old + result }
 {
-    if count >= ENOUGH {
+    // Up to sixteen take less time where no rank closes.
+    if count > IN_STEP {
         classify_some::<WIDE, L>(table, keys, count, asked, verdicts, won, steps)
     } else {
         classify_some::<IN_STEP, L>(table, keys, count, asked, verdicts, won, steps)

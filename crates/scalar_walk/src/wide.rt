@@ -28,9 +28,6 @@ use std::sync::ledger::Ledger;
 /// How many keys are walked at once at most.
 pub(crate) const WIDE: usize = 64;
 
-/// From so many keys on ranks close: fewer take less time by themselves or by fours.
-pub(crate) const ENOUGH: usize = 16;
-
 /// How many fours of lanes they take.
 const FOURS: usize = 16;
 
