@@ -1,3 +1,4 @@
+pub mod Taken
 pub mod PortWords
 pub mod MemberWords
 pub mod ServiceWords

@@ -6,8 +6,11 @@ use Rattle.cisco_reader.specs.declared.fault.LineFault.{LineFault}
 use Rattle.cisco_reader.specs.declared.fault.LineKind.{LineKind}
 use Rattle.cisco_reader.specs.declared.fault.Stop.{Stop}
 use Rattle.cisco_reader.specs.declared.fault.Stop.TheVariants as stopped
-use Rattle.cisco_reader.specs.Lines.{line_then, with_lines}
-use Rattle.cisco_reader.specs.Stops.{Fails, Refuses, fault_of}
+use Rattle.cisco_reader.specs.Read.{◌>>=◌, Becomes, Fails, Refuses, fault_of, in_line, with_lines}
+
+-- the fault of a line, or what the lines after it make
+abbrev line_then : {S A : Type 0} → ℕ → Result S LineKind → (S → Result A LineFault) → Result A LineFault
+line_then number made following = in_line number made >>= following
 
 -- What a step makes of each line of a file, and an end of that.
 module _ {S A : Type 0} (step : ℕ → S → List ℕ → Result S LineKind) (end_ : ℕ → S → Result A LineFault) where

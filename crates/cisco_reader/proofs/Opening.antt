@@ -8,7 +8,7 @@ use Rattle.cisco_reader.specs.declared.fault.LineKind.TheVariants.{GroupLoop}
 use Rattle.cisco_reader.specs.Groups.{GroupLine, ListedGroup}
 use Rattle.cisco_reader.specs.Held.{all_opened, first_naming, number_at, opened_times}
 use Rattle.cisco_reader.specs.Read.{◌>>=◌}
-use Rattle.cisco_reader.specs.Stops.{Fails}
+use Rattle.cisco_reader.specs.Read.{Fails}
 
 -- no group is named
 pub opened_none : (times : ℕ) (groups : List ListedGroup) (kind : List ℕ) (number : ℕ) (lines : List GroupLine) →

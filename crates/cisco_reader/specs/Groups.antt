@@ -2,7 +2,7 @@
 -- "object-group service"; "Object Groups for ACLs"): each has a kind, a name, and lines of members.
 -- They are gathered before the lists are read, so that a group may stand after a list or a group
 -- that names it. A group that is begun again goes on.
-use Rattle.std.specs.Prelude.{ℕ, Bool, nat_lt, if◌then◌else◌, codes, List, [], ◌∷◌, ◌++◌, length, slice_set}
+use Rattle.std.specs.Prelude.{ℕ, Bool, not, nat_lt, if◌then◌else◌, codes, List, [], ◌∷◌, ◌++◌, length, slice_set}
 use Rattle.std.specs.Prelude.{slice_index_or, Option, Some, None, Result, Ok, Err}
 use Rattle.std.specs.List.{position}
 use Rattle.std.specs.Str.{bytes_eq}
@@ -12,9 +12,10 @@ use Rattle.cisco_reader.specs.declared.heads.Head.TheVariants as head
 use Rattle.cisco_reader.specs.declared.fault.LineFault.{LineFault}
 use Rattle.cisco_reader.specs.declared.fault.LineKind.{LineKind}
 use Rattle.cisco_reader.specs.declared.fault.LineKind.TheVariants.{BadGroup, KindTwice, NoGroup, OtherKind, TakenOut}
-use Rattle.cisco_reader.specs.Heads.{head_of, rest_of}
-use Rattle.cisco_reader.specs.Lines.{with_lines}
-use Rattle.cisco_reader.specs.Names.{is_among}
+use Rattle.cisco_reader.specs.declared.names.Known.TheVariants.{GroupKind}
+use Rattle.cisco_reader.specs.Heads.{head_of}
+use Rattle.cisco_reader.specs.Read.{◌>>=◌, rest_of, with_lines}
+use Rattle.cisco_reader.specs.Names.{is_known}
 
 -- a line of a group: its number, and its words
 pub record GroupLine : Type 0 where
@@ -59,15 +60,7 @@ fitting groups kind (Some place) = if has_kind kind groups place then Ok place e
 abbrev pub place_for : List ListedGroup → List ℕ → List ℕ → Result ℕ LineKind
 place_for groups kind name = fitting groups kind (group_place name groups)
 
--- ---- heads
-
--- the kinds that there are; groups of the last three may stand there, and no entry may name them
-unfoldable pub group_kinds : List ℕ
-group_kinds = codes "network service v6-network v6-service security"
-
--- the word is one of them
-abbrev pub is_kind : List ℕ → Bool
-is_kind word = is_among word (words_of group_kinds)
+-- ---- lines
 
 -- a group that was begun goes on with the same kind; a new one has no lines
 abbrev pub begun : GroupsSoFar → List ℕ → List ℕ → Option ℕ → Result GroupsSoFar LineKind
@@ -79,19 +72,14 @@ begun so_far kind name (Some place) =
     if has_kind kind so_far.groups place then Ok (record so_far { inside = Some place })
     else Err KindTwice
 
--- the group of a kind and a name
-abbrev pub with_name : GroupsSoFar → List ℕ → List ℕ → Result GroupsSoFar LineKind
-with_name so_far kind name =
-    if is_kind kind then begun so_far kind name (group_place name so_far.groups) else Err BadGroup
-
--- what stands after `object-group`: a kind and a name
+-- what stands after `object-group`: a kind, of which no entry may name the last three, and a name
 abbrev pub with_group : GroupsSoFar → List (List ℕ) → Result GroupsSoFar LineKind
 with_group so_far [] = Err BadGroup
 with_group so_far (kind ∷ []) = Err BadGroup
-with_group so_far (kind ∷ name ∷ []) = with_name so_far kind name
+with_group so_far (kind ∷ name ∷ []) =
+    if is_known GroupKind kind then begun so_far kind name (group_place name so_far.groups)
+    else Err BadGroup
 with_group so_far (kind ∷ name ∷ word ∷ words) = Err BadGroup
-
--- ---- lines of members
 
 -- a group with a line more
 abbrev pub longer : ListedGroup → GroupLine → ListedGroup
@@ -105,38 +93,29 @@ with_line_at groups line place =
 
 -- and the same of the groups so far
 abbrev pub with_put : GroupsSoFar → GroupLine → ℕ → GroupsSoFar
-with_put so_far line place =
-    record so_far { groups = with_line_at so_far.groups line place }
+with_put so_far line place = record so_far { groups = with_line_at so_far.groups line place }
 
--- the line of a member: a description says nothing, and `no` takes a member out
-abbrev pub with_member : ℕ → GroupsSoFar → ℕ → List (List ℕ) → Result GroupsSoFar LineKind
-with_member number so_far place [] = Ok so_far
-with_member number so_far place (word ∷ words) =
+-- a line that begins nothing, by where it stands: a description of a group says nothing, and `no`
+-- takes a member out
+abbrev pub with_inner : ℕ → GroupsSoFar → List (List ℕ) → Option ℕ → Result GroupsSoFar LineKind
+with_inner number so_far words None = Ok so_far
+with_inner number so_far [] (Some place) = Ok so_far
+with_inner number so_far (word ∷ words) (Some place) =
     if bytes_eq word (codes "no") then Err TakenOut
     else (if bytes_eq word (codes "description") then Ok so_far
     else Ok (with_put so_far (record { number = number; words = word ∷ words }) place))
 
--- a line that begins nothing, by where it stands
-abbrev pub with_inner : ℕ → GroupsSoFar → List (List ℕ) → Option ℕ → Result GroupsSoFar LineKind
-with_inner number so_far words None = Ok so_far
-with_inner number so_far words (Some place) = with_member number so_far place words
-
--- and a line that ends a group
-abbrev pub left : GroupsSoFar → GroupsSoFar
-left so_far = record so_far { inside = None }
-
 -- the groups with a line, by what that is; one that isn't known is refused when lists are read
 abbrev pub with_group_head : ℕ → GroupsSoFar → List (List ℕ) → Head → Result GroupsSoFar LineKind
 with_group_head number so_far words head.Group = with_group so_far (rest_of words)
-with_group_head number so_far words head.Skipped = Ok so_far
 with_group_head number so_far words head.Entry = with_inner number so_far words so_far.inside
 with_group_head number so_far words head.Inside = with_inner number so_far words so_far.inside
+with_group_head number so_far words head.Skipped = Ok so_far
 with_group_head number so_far words head.Unknown = Ok so_far
-with_group_head number so_far words head.Numbered = Ok (left so_far)
-with_group_head number so_far words head.Named = Ok (left so_far)
-with_group_head number so_far words head.TakenOut = Ok (left so_far)
-with_group_head number so_far words head.End = Ok (left so_far)
-with_group_head number so_far words head.Part = Ok (left so_far)
+with_group_head number so_far words head.Numbered = Ok (record so_far { inside = None })
+with_group_head number so_far words head.Named = Ok (record so_far { inside = None })
+with_group_head number so_far words head.TakenOut = Ok (record so_far { inside = None })
+with_group_head number so_far words head.Part = Ok (record so_far { inside = None })
 
 -- the groups with a line
 abbrev pub with_group_line : ℕ → GroupsSoFar → List ℕ → Result GroupsSoFar LineKind

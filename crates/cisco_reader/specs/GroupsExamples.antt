@@ -1,23 +1,23 @@
 -- Examples of groups, each checked by evaluation: what groups of networks and of services hold, and
 -- the faults of others.
-use Rattle.std.specs.Prelude.{◌≡◌, ℕ, ◌++◌, List, [], ◌∷◌, codes, true, false, Option, Some, None, Result, Ok, Err, refl}
+use Rattle.std.specs.Prelude.{◌≡◌, ℕ, ◌++◌, List, [], ◌∷◌, codes, map, true, false}
+use Rattle.std.specs.Prelude.{Option, Some, None, Result, Ok, Err, refl}
 use Rattle.std.specs.Fmt.{digits}
 use Rattle.list_chains.specs.declared.span.Span.{Span}
 use Rattle.cisco_reader.specs.declared.entry.Addresses.TheVariants.{Group}
 use Rattle.cisco_reader.specs.declared.entry.Services.TheVariants as of
 use Rattle.cisco_reader.specs.declared.ports.PortPart.{PortPart}
-use Rattle.cisco_reader.specs.declared.protocols.Protocols.{Protocols}
-use Rattle.cisco_reader.specs.declared.protocols.Protocols.TheVariants.{Between, TcpUdp}
+use Rattle.cisco_reader.specs.declared.services.Protocols.{Protocols}
+use Rattle.cisco_reader.specs.declared.services.Protocols.TheVariants.{Between, TcpUdp}
 use Rattle.cisco_reader.specs.declared.services.Service.{Service}
 use Rattle.cisco_reader.specs.declared.fault.LineFault.{LineFault}
 use Rattle.cisco_reader.specs.declared.fault.LineKind.{LineKind}
 use Rattle.cisco_reader.specs.declared.fault.LineKind.TheVariants as kind
-use Rattle.cisco_reader.specs.Groups.{group_kinds, groups_of}
-use Rattle.cisco_reader.specs.Heads.{begins_part, is_end, is_entry, is_ip, is_named, named_words, part_words}
+use Rattle.cisco_reader.specs.Groups.{groups_of}
 use Rattle.cisco_reader.specs.Held.{address_spans, opened_times, services_of}
-use Rattle.cisco_reader.specs.Lines.{with_lines}
-use Rattle.cisco_reader.specs.Names.{is_among, number_named, port_table, protocol_table}
-use Rattle.cisco_reader.specs.Read.{◌>>=◌}
+use Rattle.cisco_reader.specs.Names.{number_named, port_table, protocol_table}
+use Rattle.cisco_reader.specs.Read.{◌>>=◌, with_lines}
+use Rattle.cisco_reader.specs.Names.{is_among, part_words}
 
 -- the numbers from one to another
 infixl 20 ◌to◌
@@ -36,15 +36,13 @@ faulty line kind = Err (record { line = line; kind = kind })
 members : first_holds (codes "object-group network A\n description some\n host 10.1.0.7\n!\n"
     ++ codes " range 10.0.0.3 10.0.0.5\n 10.2.0.0 255.255.0.0\nhostname edge\n any\n")
     ≡ Ok ((167837703 to 167837703) ∷ (167772163 to 167772165) ∷ (167903232 to 167968767) ∷ [])
-unfolding with_lines digits is_among is_entry is_end is_named named_words begins_part part_words
-    is_ip group_kinds opened_times
+unfolding with_lines digits is_among part_words opened_times
 members = refl
 
 -- a network with the length of its prefix, in one word or two
 lengths : first_holds (codes "object-group network A\n 10.2.3.4/16\n 10.2.0.0 /24\n")
     ≡ Ok ((167903232 to 167968767) ∷ (167903232 to 167903487) ∷ [])
-unfolding with_lines digits is_among is_entry is_end is_named named_words begins_part part_words
-    is_ip group_kinds opened_times
+unfolding with_lines digits is_among part_words opened_times
 lengths = refl
 
 -- a group in a group stands for its members, also if it begins later and goes on
@@ -53,64 +51,30 @@ inner : first_holds (codes "object-group network A\n group-object B\n host 10.0.
     ++ codes "object-group network B\n host 10.0.0.4\n")
     ≡ Ok ((167772162 to 167772162) ∷ (167772164 to 167772164) ∷ (167772161 to 167772161)
     ∷ (167772163 to 167772163) ∷ [])
-unfolding with_lines digits is_among is_entry is_end is_named named_words begins_part part_words
-    is_ip group_kinds opened_times
+unfolding with_lines digits is_among part_words opened_times
 inner = refl
 
--- ---- faults
+-- files whose first group has a fault
+abbrev are_unheld : List (List ℕ × ℕ × LineKind) → Type 0
+are_unheld rows = map (λ row. first_holds row.0) rows ≡ map (λ row. faulty row.1 row.2) rows
 
-loop : first_holds (codes "object-group network A\n group-object B\n"
-    ++ codes "object-group network B\n group-object A\n")
-    ≡ faulty 2 kind.GroupLoop
-unfolding with_lines digits is_among is_entry is_end is_named named_words begins_part part_words
-    is_ip group_kinds opened_times
-loop = refl
-
-unknown : first_holds (codes "object-group network A\n group-object B\n") ≡ faulty 2 kind.NoGroup
-unfolding with_lines digits is_among is_entry is_end is_named named_words begins_part part_words
-    is_ip group_kinds opened_times
-unknown = refl
-
-of_services :
-    first_holds (codes "object-group network A\n group-object B\nobject-group service B\n tcp\n")
-    ≡ faulty 2 kind.OtherKind
-unfolding with_lines digits is_among is_entry is_end is_named named_words begins_part part_words
-    is_ip group_kinds opened_times
-of_services = refl
-
-empty : first_holds (codes "object-group network A\n description none\n") ≡ faulty 9 kind.EmptyGroup
-unfolding with_lines digits is_among is_entry is_end is_named named_words begins_part part_words
-    is_ip group_kinds opened_times
-empty = refl
-
-taken_out : first_holds (codes "object-group network A\n host 10.0.0.1\n no host 10.0.0.1\n")
-    ≡ faulty 3 kind.TakenOut
-unfolding with_lines digits is_among is_entry is_end is_named named_words begins_part part_words
-    is_ip group_kinds opened_times
-taken_out = refl
-
-wildcard : first_holds (codes "object-group network A\n 10.0.0.0 0.0.0.255\n")
-    ≡ faulty 2 kind.BadNetworkMask
-unfolding with_lines digits is_among is_entry is_end is_named named_words begins_part part_words
-    is_ip group_kinds opened_times
-wildcard = refl
-
-bits_left_out : first_holds (codes "object-group network A\n 10.0.0.1 255.255.255.0\n")
-    ≡ faulty 2 kind.BadNetworkMask
-unfolding with_lines digits is_among is_entry is_end is_named named_words begins_part part_words
-    is_ip group_kinds opened_times
-bits_left_out = refl
-
-without_a_name : first_holds (codes "object-group network\n") ≡ faulty 1 kind.BadGroup
-unfolding with_lines digits is_among is_entry is_end is_named named_words begins_part part_words
-    is_ip group_kinds opened_times
-without_a_name = refl
-
-of_two_kinds : first_holds (codes "object-group network A\nobject-group service A\n")
-    ≡ faulty 2 kind.KindTwice
-unfolding with_lines digits is_among is_entry is_end is_named named_words begins_part part_words
-    is_ip group_kinds opened_times
-of_two_kinds = refl
+unheld : are_unheld ((
+  codes "object-group network A\n group-object B\n"
+      ++ codes "object-group network B\n group-object A\n",
+  2,
+  kind.GroupLoop,
+)
+    ∷ (codes "object-group network A\n group-object B\n", 2, kind.NoGroup)
+    ∷ (codes "object-group network A\n group-object B\nobject-group service B\n tcp\n", 2, kind.OtherKind)
+    ∷ (codes "object-group network A\n description none\n", 9, kind.EmptyGroup)
+    ∷ (codes "object-group network A\n host 10.0.0.1\n no host 10.0.0.1\n", 3, kind.TakenOut)
+    ∷ (codes "object-group network A\n 10.0.0.0 0.0.0.255\n", 2, kind.BadNetworkMask)
+    ∷ (codes "object-group network A\n 10.0.0.1 255.255.255.0\n", 2, kind.BadNetworkMask)
+    ∷ (codes "object-group network\n", 1, kind.BadGroup)
+    ∷ (codes "object-group network A\nobject-group service A\n", 2, kind.KindTwice)
+    ∷ [])
+unfolding with_lines digits is_among part_words opened_times
+unheld = refl
 
 -- ---- services
 
@@ -143,8 +107,8 @@ services : first_serves (codes "object-group service S\n description some\n tcp 
     ∷ service TcpUdp None (ports ((53 to 53) ∷ []))
     ∷ service (Between (6 to 6)) (but ((22 to 22) ∷ [])) None
     ∷ service (Between (132 to 132)) None (ports ((0 to 8) ∷ [])) ∷ [])
-unfolding with_lines digits is_among is_entry is_end is_named named_words begins_part part_words
-    is_ip group_kinds opened_times number_named port_table protocol_table
+unfolding with_lines digits is_among part_words opened_times
+    number_named port_table protocol_table
 services = refl
 
 -- protocols without ports, and a group in the group
@@ -152,42 +116,22 @@ protocols : first_serves (codes "object-group service S\n ip\n group-object T\n 
     ++ codes "object-group service T\n icmp\n esp\n")
     ≡ Ok (service (Between (0 to 255)) None None ∷ service (Between (1 to 1)) None None
     ∷ service (Between (50 to 50)) None None ∷ service (Between (50 to 50)) None None ∷ [])
-unfolding with_lines digits is_among is_entry is_end is_named named_words begins_part part_words
-    is_ip group_kinds opened_times number_named port_table protocol_table
+unfolding with_lines digits is_among part_words opened_times
+    number_named port_table protocol_table
 protocols = refl
 
-a_type : first_serves (codes "object-group service S\n icmp echo\n") ≡ unserved 2 kind.IcmpType
-unfolding with_lines digits is_among is_entry is_end is_named named_words begins_part part_words
-    is_ip group_kinds opened_times number_named port_table protocol_table
-a_type = refl
+-- the same of groups of services
+abbrev are_refused : List (List ℕ × ℕ × LineKind) → Type 0
+are_refused rows = map (λ row. first_serves row.0) rows ≡ map (λ row. unserved row.1 row.2) rows
 
-two_ports : first_serves (codes "object-group service S\n tcp\n tcp eq 80 443\n")
-    ≡ unserved 3 kind.UnknownWord
-unfolding with_lines digits is_among is_entry is_end is_named named_words begins_part part_words
-    is_ip group_kinds opened_times number_named port_table protocol_table
-two_ports = refl
-
-ports_of_esp : first_serves (codes "object-group service S\n esp 80\n")
-    ≡ unserved 2 kind.NeedsProtocol
-unfolding with_lines digits is_among is_entry is_end is_named named_words begins_part part_words
-    is_ip group_kinds opened_times number_named port_table protocol_table
-ports_of_esp = refl
-
-no_source : first_serves (codes "object-group service S\n tcp source\n")
-    ≡ unserved 2 kind.MissingWord
-unfolding with_lines digits is_among is_entry is_end is_named named_words begins_part part_words
-    is_ip group_kinds opened_times number_named port_table protocol_table
-no_source = refl
-
-of_networks :
-    first_serves (codes "object-group service S\n group-object T\nobject-group network T\n any\n")
-    ≡ unserved 2 kind.OtherKind
-unfolding with_lines digits is_among is_entry is_end is_named named_words begins_part part_words
-    is_ip group_kinds opened_times number_named port_table protocol_table
-of_networks = refl
-
-in_a_loop : first_serves (codes "object-group service S\n tcp\n group-object S\n")
-    ≡ unserved 3 kind.GroupLoop
-unfolding with_lines digits is_among is_entry is_end is_named named_words begins_part part_words
-    is_ip group_kinds opened_times number_named port_table protocol_table
-in_a_loop = refl
+refused : are_refused (
+    (codes "object-group service S\n icmp echo\n", 2, kind.IcmpType)
+    ∷ (codes "object-group service S\n tcp\n tcp eq 80 443\n", 3, kind.UnknownWord)
+    ∷ (codes "object-group service S\n esp 80\n", 2, kind.NeedsProtocol)
+    ∷ (codes "object-group service S\n tcp source\n", 2, kind.MissingWord)
+    ∷ (codes "object-group service S\n group-object T\nobject-group network T\n any\n", 2, kind.OtherKind)
+    ∷ (codes "object-group service S\n tcp\n group-object S\n", 3, kind.GroupLoop)
+    ∷ [])
+unfolding with_lines digits is_among part_words opened_times
+    number_named port_table protocol_table
+refused = refl

@@ -1,11 +1,10 @@
 -- What a group holds: the lines of its members, in which a group is replaced by its own lines, over
 -- and over; and what they stand for. A group that is still there after so many times lies within
 -- itself, or in more groups than are read.
-use Rattle.std.specs.Prelude.{ℕ, Bool, false, nat_lt, if◌then◌else◌, codes, List, [], ◌∷◌, ◌++◌, length}
+use Rattle.std.specs.Prelude.{ℕ, nat_lt, if◌then◌else◌, codes, List, [], ◌∷◌, ◌++◌, length}
 use Rattle.std.specs.Prelude.{slice_index_or, Option, Some, None, Result, Ok, Err}
 use Rattle.std.proofs.Common.{zero, suc}
 use Rattle.std.specs.List.{position}
-use Rattle.std.specs.Str.{bytes_eq}
 use Rattle.list_chains.specs.declared.span.Span.{Span}
 use Rattle.cisco_reader.specs.declared.entry.Addresses.{Addresses}
 use Rattle.cisco_reader.specs.declared.entry.Addresses.TheVariants as addresses
@@ -16,10 +15,9 @@ use Rattle.cisco_reader.specs.declared.held.TheConstants.{MAX_DEPTH, MAX_HELD}
 use Rattle.cisco_reader.specs.declared.fault.LineFault.{LineFault}
 use Rattle.cisco_reader.specs.declared.fault.LineKind.{LineKind}
 use Rattle.cisco_reader.specs.declared.fault.LineKind.TheVariants.{EmptyGroup, GroupLoop, LargeGroup}
-use Rattle.cisco_reader.specs.declared.fault.LineKind.TheVariants.{MissingWord, UnknownWord}
 use Rattle.cisco_reader.specs.Groups.{GroupLine, ListedGroup, no_group, place_for}
 use Rattle.cisco_reader.specs.Members.{network_of_words}
-use Rattle.cisco_reader.specs.Read.{◌>>=◌, all_after}
+use Rattle.cisco_reader.specs.Read.{◌>>=◌, ◌>>-◌, all_after, alone, in_line, is_next, required, rest_of}
 use Rattle.cisco_reader.specs.Services.{service_of_words}
 use Rattle.cisco_reader.specs.Wildcard.{spans_under}
 
@@ -31,45 +29,28 @@ max_held = MAX_HELD
 abbrev pub max_depth : ℕ
 max_depth = MAX_DEPTH
 
--- a fault of a line
-abbrev pub in_line : {A : Type 0} → ℕ → Result A LineKind → Result A LineFault
-in_line number (Ok value) = Ok value
-in_line number (Err kind) = Err (record { line = number; kind = kind })
-
 -- ---- lines
-
--- the lines of the group of a place
-abbrev pub lines_at : List ListedGroup → ℕ → List GroupLine
-lines_at groups place = (slice_index_or groups place no_group).lines
 
 -- a group that is named has members
 abbrev pub filled : List GroupLine → Result (List GroupLine) LineKind
 filled [] = Err EmptyGroup
 filled (line ∷ lines) = Ok (line ∷ lines)
 
--- the words name a group
-abbrev pub names_group : List (List ℕ) → Bool
-names_group [] = false
-names_group (word ∷ words) = bytes_eq word (codes "group-object")
+-- the lines of the group of a place
+abbrev pub lines_at : List ListedGroup → ℕ → Result (List GroupLine) LineKind
+lines_at groups place = filled (slice_index_or groups place no_group).lines
 
--- the group that is named after the first word
-abbrev pub named_place : List ListedGroup → List ℕ → List (List ℕ) → Result ℕ LineKind
-named_place groups kind [] = Err MissingWord
-named_place groups kind (word ∷ []) = Err MissingWord
-named_place groups kind (word ∷ name ∷ []) = place_for groups kind name
-named_place groups kind (word ∷ name ∷ other ∷ words) = Err UnknownWord
-
--- the lines of the group that is named, which is of the same kind
+-- the lines of the group that is named by a word, after which nothing stands; it is of the same kind
 abbrev pub inner_lines : List ListedGroup → List ℕ → List (List ℕ)
     → Result (List GroupLine) LineKind
-inner_lines groups kind words =
-    named_place groups kind words >>= λ place. filled (lines_at groups place)
+inner_lines groups kind words = required words >>- λ name rest. (alone rest name >>=
+    place_for groups kind >>= lines_at groups)
 
 -- a line, or those of the group that it names
 abbrev pub opened : List ListedGroup → List ℕ → GroupLine → Result (List GroupLine) LineFault
 opened groups kind line =
-    if names_group line.words then in_line line.number (inner_lines groups kind line.words)
-    else Ok (line ∷ [])
+    if is_next (codes "group-object") line.words
+    then in_line line.number (inner_lines groups kind (rest_of line.words)) else Ok (line ∷ [])
 
 -- some lines, if they aren't too many
 abbrev pub few : ℕ → List GroupLine → Result (List GroupLine) LineFault
@@ -90,15 +71,11 @@ all_opened groups kind number lines = all_after (with_opened groups kind number)
 
 -- the place of the first line that names a group
 abbrev pub first_naming : List GroupLine → Option ℕ
-first_naming lines = position (λ (line : GroupLine). names_group line.words) lines
-
--- what is at no place
-abbrev pub no_line : GroupLine
-no_line = record { number = 0; words = [] }
+first_naming lines = position (λ (line : GroupLine). is_next (codes "group-object") line.words) lines
 
 -- the number of the line of a place
 abbrev pub number_at : List GroupLine → ℕ → ℕ
-number_at lines place = (slice_index_or lines place no_line).number
+number_at lines place = (slice_index_or lines place (record { number = 0; words = [] })).number
 
 -- lines, unless one of them names a group: then what follows
 abbrev pub unless_naming : List GroupLine → Option ℕ
@@ -117,7 +94,7 @@ opened_times (suc times) groups kind number lines = unless_naming lines (first_n
 -- the lines of all members that a group holds, which a line names
 abbrev pub held : List ListedGroup → List ℕ → ℕ → ℕ → Result (List GroupLine) LineFault
 held groups kind number place =
-    in_line number (filled (lines_at groups place)) >>= opened_times max_depth groups kind number
+    in_line number (lines_at groups place) >>= opened_times max_depth groups kind number
 
 -- ---- what members stand for
 

@@ -13,19 +13,21 @@ use Rattle.cisco_reader.specs.declared.entry.Services.{Services}
 use Rattle.cisco_reader.specs.declared.entry.Services.TheVariants as services
 use Rattle.cisco_reader.specs.declared.ports.Operator.TheVariants as operator
 use Rattle.cisco_reader.specs.declared.ports.PortPart.{PortPart}
-use Rattle.cisco_reader.specs.declared.protocols.Protocols.{Protocols}
-use Rattle.cisco_reader.specs.declared.protocols.Protocols.TheVariants as protocols
+use Rattle.cisco_reader.specs.declared.names.Known.TheVariants as known
+use Rattle.cisco_reader.specs.declared.services.Protocols.{Protocols}
+use Rattle.cisco_reader.specs.declared.services.Protocols.TheVariants as protocols
 use Rattle.cisco_reader.specs.declared.services.Service.{Service}
 use Rattle.cisco_reader.specs.declared.entry.Verdict.{Verdict}
 use Rattle.cisco_reader.specs.declared.entry.Entry.{Entry}
-use Rattle.cisco_reader.specs.Entry.{all_ones, entry_of, is_log}
+use Rattle.cisco_reader.specs.Entry.{all_ones, entry_of}
 use Rattle.cisco_reader.specs.Groups.{ListedGroup, place_for}
 use Rattle.cisco_reader.specs.Members.{network_of_words, prefix_span}
 use Rattle.cisco_reader.specs.Names.{number_of, port_of}
-use Rattle.cisco_reader.specs.Ports.{operator_named, ports_above, ports_below}
-use Rattle.cisco_reader.specs.Protocols.{protocols_of}
-use Rattle.cisco_reader.specs.Services.{service_of_words}
+use Rattle.cisco_reader.specs.PortList.{ports_above, ports_below}
+use Rattle.cisco_reader.specs.Ports.{operator_named}
+use Rattle.cisco_reader.specs.Services.{protocols_of, service_of_words}
 use Rattle.cisco_reader.specs.Wildcard.{ip4_plain, under_mask}
+use Rattle.cisco_reader.specs.Names.{is_known}
 
 -- ---- addresses
 
@@ -107,9 +109,9 @@ pub data AreServices (begins : Carried) (source destination : Option PortPart) (
 -- The words after the addresses: none; `log` or `log-input`; or one of them and a word for the log.
 pub data AreLog (words : List (List ℕ)) : Type 0 where
   NoLog : words ≡ [] → AreLog words
-  Log : (word : List ℕ) → is_log word ≡ true
+  Log : (word : List ℕ) → is_known known.Log word ≡ true
       → words ≡ word ∷ [] → AreLog words
-  Told : (word other : List ℕ) → is_log word ≡ true
+  Told : (word other : List ℕ) → is_known known.Log word ≡ true
       → words ≡ word ∷ other ∷ [] → AreLog words
 
 -- ---- the entry

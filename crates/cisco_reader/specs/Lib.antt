@@ -1,11 +1,9 @@
 pub mod Read
-pub mod Lines
 pub mod Names
 pub mod Wildcard
 pub mod WildcardExamples
 pub mod PortList
 pub mod Ports
-pub mod Protocols
 pub mod Services
 pub mod Heads
 pub mod Groups
@@ -13,8 +11,6 @@ pub mod Entry
 pub mod Members
 pub mod Held
 pub mod Joined
-pub mod Stops
-pub mod Sequence
 pub mod Lists
 pub mod Packets
 pub mod PacketsExamples

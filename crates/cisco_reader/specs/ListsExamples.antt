@@ -1,6 +1,7 @@
 -- Examples of configurations, each checked by evaluation: lists as devices write them, what their
 -- entries say, and the faults of others. Masks have examples of their own.
-use Rattle.std.specs.Prelude.{◌≡◌, ℕ, ◌++◌, List, [], ◌∷◌, codes, true, false, Some, None, Result, Ok, Err, refl}
+use Rattle.std.specs.Prelude.{◌≡◌, ℕ, ◌++◌, List, [], ◌∷◌, codes, map, true, false}
+use Rattle.std.specs.Prelude.{Some, None, Result, Ok, Err, refl}
 use Rattle.std.specs.Fmt.{digits}
 use Rattle.list_chains.specs.declared.span.Span.{Span}
 use Rattle.cisco_reader.specs.declared.entry.Addresses.TheVariants.{Under}
@@ -11,15 +12,13 @@ use Rattle.cisco_reader.specs.declared.entry.Verdict.TheVariants.{Permit, Deny}
 use Rattle.cisco_reader.specs.declared.fault.LineFault.{LineFault}
 use Rattle.cisco_reader.specs.declared.fault.LineKind.{LineKind}
 use Rattle.cisco_reader.specs.declared.fault.LineKind.TheVariants as kind
-use Rattle.cisco_reader.specs.declared.protocols.Protocols.TheVariants.{Between}
-use Rattle.cisco_reader.specs.declared.sequence.Placed.{Placed}
-use Rattle.cisco_reader.specs.Entry.{log_words}
-use Rattle.cisco_reader.specs.Groups.{group_kinds, groups_of}
-use Rattle.cisco_reader.specs.Heads.{begins_part, is_end, is_entry, is_ip, is_named, named_words, part_words}
-use Rattle.cisco_reader.specs.Lines.{with_lines}
-use Rattle.cisco_reader.specs.Lists.{entries_of, entry_words, is_unread, setting_words, unread_kinds}
-use Rattle.cisco_reader.specs.Names.{compared_words, is_among, number_named, port_table, protocol_table}
+use Rattle.cisco_reader.specs.declared.services.Protocols.TheVariants.{Between}
+use Rattle.cisco_reader.specs.declared.list.Placed.{Placed}
+use Rattle.cisco_reader.specs.Groups.{groups_of}
+use Rattle.cisco_reader.specs.Lists.{entries_of, with_lines}
+use Rattle.cisco_reader.specs.Names.{number_named, port_table, protocol_table}
 use Rattle.cisco_reader.specs.Read.{◌>>=◌}
+use Rattle.cisco_reader.specs.Names.{compared_words, entry_words, is_among, log_words, part_words}
 
 -- the numbers from one to another
 infixl 20 ◌to◌
@@ -85,7 +84,7 @@ numbered : said_of (codes "101")
     ≡ Ok (entry 10 1 Permit (6 to 6) (host 167837703) (ported any ((22 to 22) ∷ []))
     ∷ entry 20 4 Deny (17 to 17) any (ported any ((123 to 123) ∷ [])) ∷ [])
 unfolding with_lines digits is_among number_named port_table protocol_table compared_words
-    log_words is_entry is_end is_named named_words begins_part part_words entry_words
+    log_words entry_words part_words
 numbered = refl
 
 -- named: entries stand in the order of their numbers, and one without comes last
@@ -94,7 +93,7 @@ in_order : said_by (codes "ip access-list extended A\n20 permit tcp any any\n"
     ≡ Ok (entry 10 3 Permit (17 to 17) any any ∷ entry 20 2 Permit (6 to 6) any any
     ∷ entry 30 4 Permit (47 to 47) any any ∷ [])
 unfolding with_lines digits is_among number_named port_table protocol_table compared_words
-    log_words is_entry is_end is_named named_words begins_part part_words entry_words
+    log_words entry_words part_words
 in_order = refl
 
 -- comments and other parts say nothing
@@ -102,7 +101,7 @@ around : said_by (codes "hostname edge\r\n!\r\ninterface Gi0/0\r\n ip access-gro
     ++ codes "ip access-list extended A\r\n!\r\n permit ip any any\r\nend\r\n")
     ≡ Ok (entry 10 7 Permit (0 to 255) any any ∷ [])
 unfolding with_lines digits is_among number_named port_table protocol_table compared_words
-    log_words is_entry is_end is_ip is_named named_words begins_part part_words entry_words
+    log_words entry_words part_words
 around = refl
 
 -- ---- entries
@@ -112,14 +111,14 @@ many_ports : one (codes "permit tcp any host 192.0.2.10 eq www 443")
     ≡ Ok (entry 10 2 Permit (6 to 6) any
     (ported (host 3221225994) ((80 to 80) ∷ (443 to 443) ∷ [])) ∷ [])
 unfolding with_lines digits is_among number_named port_table protocol_table compared_words
-    log_words is_entry is_end is_named named_words begins_part part_words entry_words
+    log_words entry_words part_words
 many_ports = refl
 
 -- the ports after neq are left out
 not_equal : one (codes "permit tcp any neq telnet any log-input Cookie")
     ≡ Ok (entry 10 2 Permit (6 to 6) (but any ((23 to 23) ∷ [])) any ∷ [])
 unfolding with_lines digits is_among number_named port_table protocol_table compared_words
-    log_words is_entry is_end is_named named_words begins_part part_words entry_words
+    log_words entry_words part_words
 not_equal = refl
 
 -- ports above, below and between others
@@ -127,14 +126,14 @@ above_and_between : one (codes "permit udp any gt 1023 any range 53 80")
     ≡ Ok (entry 10 2 Permit (17 to 17) (ported any ((1024 to 65535) ∷ []))
     (ported any ((53 to 80) ∷ [])) ∷ [])
 unfolding with_lines digits is_among number_named port_table protocol_table compared_words
-    log_words is_entry is_end is_named named_words begins_part part_words entry_words
+    log_words entry_words part_words
 above_and_between = refl
 
 -- no port is below 0
 below : one (codes "deny tcp any lt 1024 any lt 0")
     ≡ Ok (entry 10 2 Deny (6 to 6) (ported any ((0 to 1023) ∷ [])) (ported any []) ∷ [])
 unfolding with_lines digits is_among number_named port_table protocol_table compared_words
-    log_words is_entry is_end is_named named_words begins_part part_words entry_words
+    log_words entry_words part_words
 below = refl
 
 -- the services are those of a group
@@ -151,94 +150,53 @@ of_a_group : said_by (codes "object-group service S\n tcp www\nip access-list ex
       };
     } ∷ [])
 unfolding with_lines digits is_among number_named port_table protocol_table compared_words
-    log_words is_entry is_end is_named named_words begins_part part_words entry_words group_kinds
+    log_words entry_words part_words
 of_a_group = refl
 
 -- ---- faults
 
-ports_beside_a_group : said_by (codes "object-group service S\n tcp\nip access-list extended A\n"
-    ++ codes " permit object-group S any any eq 80\n")
-    ≡ faulty 4 kind.Group
-unfolding with_lines digits is_among number_named port_table protocol_table compared_words
-    log_words is_entry is_end is_named named_words begins_part part_words entry_words group_kinds
-ports_beside_a_group = refl
+-- lists whose entry has a fault
+abbrev are_faulty_entries : List (List ℕ × ℕ × LineKind) → Type 0
+are_faulty_entries rows = map (λ row. one row.0) rows ≡ map (λ row. faulty row.1 row.2) rows
 
-networks_for_services : said_by (codes "object-group network N\n any\nip access-list extended A\n"
-    ++ codes " permit object-group N any any\n")
-    ≡ faulty 4 kind.OtherKind
+faulty_entries : are_faulty_entries (
+    (codes "permit tcp any any established", 2, kind.Compares)
+    ∷ (codes "permit icmp any any log 8", 2, kind.IcmpType)
+    ∷ (codes "permit ip 10.0.0.1 any", 2, kind.BadMask)
+    ∷ (codes "permit tcp any any eq 65536", 2, kind.BadPort)
+    ∷ (codes "permit ip any any eq 80", 2, kind.NeedsProtocol)
+    ∷ (codes "10 permit tcp any any\n 10 deny ip any any", 3, kind.SequenceTwice)
+    ∷ (codes "permit tcp any any\nno ip access-list extended A", 3, kind.TakenOut)
+    ∷ [])
 unfolding with_lines digits is_among number_named port_table protocol_table compared_words
-    log_words is_entry is_end is_named named_words begins_part part_words entry_words group_kinds
-networks_for_services = refl
+    log_words entry_words part_words
+faulty_entries = refl
 
-established : one (codes "permit tcp any any established") ≡ faulty 2 kind.Compares
-unfolding with_lines digits is_among number_named port_table protocol_table compared_words
-    log_words is_entry is_end is_named named_words begins_part part_words entry_words
-established = refl
+-- files with a fault, and the list that is asked for
+abbrev are_faulty_files : List (List ℕ × List ℕ × ℕ × LineKind) → Type 0
+are_faulty_files rows = map (λ row. said_of row.0 row.1) rows ≡ map (λ row. faulty row.2 row.3) rows
 
-a_type : one (codes "permit icmp any any log 8") ≡ faulty 2 kind.IcmpType
+faulty_files : are_faulty_files ((
+  codes "A",
+  codes "object-group service S\n tcp\nip access-list extended A\n"
+      ++ codes " permit object-group S any any eq 80\n",
+  4,
+  kind.Group,
+)
+    ∷ (
+      codes "A",
+      codes "object-group network N\n any\nip access-list extended A\n"
+          ++ codes " permit object-group N any any\n",
+      4,
+      kind.OtherKind,
+    )
+    ∷ (codes "A", codes "ip access-list standard A\n permit 10.0.0.1\n", 1, kind.NotExtended)
+    ∷ (codes "A", codes "ip access-list extended A\nexit\n permit ip any any\n", 3, kind.StrayEntry)
+    ∷ (codes "A", codes "some text\n", 1, kind.UnknownLine)
+    ∷ (codes "A", codes "ip access-list extended B\n permit ip any any\n", 2, kind.NoList)
+    ∷ (codes "101", codes "access-list 101 permit tcp any any\n eq 443\n", 2, kind.Wrapped)
+    ∷ (codes "OUT", codes "access-list OUT extended permit ip any any\n", 1, kind.BadList)
+    ∷ [])
 unfolding with_lines digits is_among number_named port_table protocol_table compared_words
-    log_words is_entry is_end is_named named_words begins_part part_words entry_words
-a_type = refl
-
-no_mask : one (codes "permit ip 10.0.0.1 any") ≡ faulty 2 kind.BadMask
-unfolding with_lines digits is_among number_named port_table protocol_table compared_words
-    log_words is_entry is_end is_named named_words begins_part part_words entry_words
-no_mask = refl
-
-no_port : one (codes "permit tcp any any eq 65536") ≡ faulty 2 kind.BadPort
-unfolding with_lines digits is_among number_named port_table protocol_table compared_words
-    log_words is_entry is_end is_named named_words begins_part part_words entry_words
-no_port = refl
-
-no_ports_of_ip : one (codes "permit ip any any eq 80") ≡ faulty 2 kind.NeedsProtocol
-unfolding with_lines digits is_among number_named port_table protocol_table compared_words
-    log_words is_entry is_end is_named named_words begins_part part_words entry_words
-no_ports_of_ip = refl
-
-twice : one (codes "10 permit tcp any any\n 10 deny ip any any") ≡ faulty 3 kind.SequenceTwice
-unfolding with_lines digits is_among number_named port_table protocol_table compared_words
-    log_words is_entry is_end is_named named_words begins_part part_words entry_words
-twice = refl
-
-standard : said_by (codes "ip access-list standard A\n permit 10.0.0.1\n")
-    ≡ faulty 1 kind.NotExtended
-unfolding with_lines digits is_among number_named port_table protocol_table compared_words
-    log_words is_entry is_end is_named named_words begins_part part_words entry_words
-    is_unread unread_kinds setting_words
-standard = refl
-
-stray : said_by (codes "ip access-list extended A\nexit\n permit ip any any\n")
-    ≡ faulty 3 kind.StrayEntry
-unfolding with_lines digits is_among number_named port_table protocol_table compared_words
-    log_words is_entry is_end is_ip is_named named_words begins_part part_words entry_words
-stray = refl
-
-taken_out : one (codes "permit tcp any any\nno ip access-list extended A") ≡ faulty 3 kind.TakenOut
-unfolding with_lines digits is_among number_named port_table protocol_table compared_words
-    log_words is_entry is_end is_ip is_named named_words begins_part part_words entry_words
-taken_out = refl
-
-unknown : said_by (codes "some text\n") ≡ faulty 1 kind.UnknownLine
-unfolding with_lines digits is_among number_named port_table protocol_table compared_words
-    log_words is_entry is_end is_ip is_named named_words begins_part part_words entry_words
-unknown = refl
-
-other_list : said_by (codes "ip access-list extended B\n permit ip any any\n")
-    ≡ faulty 2 kind.NoList
-unfolding with_lines digits is_among number_named port_table protocol_table compared_words
-    log_words is_entry is_end is_ip is_named named_words begins_part part_words entry_words
-other_list = refl
-
-wrapped : said_of (codes "101") (codes "access-list 101 permit tcp any any\n eq 443\n")
-    ≡ faulty 2 kind.Wrapped
-unfolding with_lines digits is_among number_named port_table protocol_table compared_words
-    log_words is_entry is_end is_ip is_named named_words begins_part part_words entry_words
-wrapped = refl
-
-of_the_other_device :
-    said_of (codes "OUT") (codes "access-list OUT extended permit ip any any\n")
-    ≡ faulty 1 kind.BadList
-unfolding with_lines digits is_among number_named port_table protocol_table compared_words
-    log_words is_entry is_end is_ip is_named named_words begins_part part_words entry_words
-    is_unread
-of_the_other_device = refl
+    log_words entry_words part_words
+faulty_files = refl

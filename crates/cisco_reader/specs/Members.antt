@@ -7,35 +7,20 @@ use Rattle.std.specs.Str.{bytes_eq}
 use Rattle.text_scan.specs.Parts.{slash, cut_at}
 use Rattle.list_chains.specs.declared.span.Span.{Span}
 use Rattle.cisco_reader.specs.declared.fault.LineKind.{LineKind}
-use Rattle.cisco_reader.specs.declared.fault.LineKind.TheVariants.{BadAddress, BadNetworkMask, MissingWord}
-use Rattle.cisco_reader.specs.Entry.{all_ones}
+use Rattle.cisco_reader.specs.declared.fault.LineKind.TheVariants.{BadAddress, BadNetworkMask}
+use Rattle.cisco_reader.specs.Entry.{address_word, all_ones}
 use Rattle.cisco_reader.specs.Names.{number_of}
-use Rattle.cisco_reader.specs.Read.{◌>>=◌, alone, known}
+use Rattle.cisco_reader.specs.Read.{After, ◌>>=◌, ◌>>-◌, alone, done, found, required}
 use Rattle.cisco_reader.specs.Wildcard.{ip4_plain}
+
+-- the addresses from one to another
+abbrev pub addresses_between : ℕ → ℕ → Span
+addresses_between low high = record { low = low; high = high }
 
 -- the addresses that agree with one in all but their last bits
 abbrev pub prefix_span : ℕ → ℕ → Span
-prefix_span address free = record {
-  low = address / 2 ^ free * 2 ^ free;
-  high = address / 2 ^ free * 2 ^ free + (2 ^ free - 1);
-}
-
--- one address
-abbrev pub one_span : ℕ → Span
-one_span address = record { low = address; high = address }
-
--- the addresses from one to another
-abbrev pub span_to : ℕ → ℕ → Result Span LineKind
-span_to low high =
-    if nat_le low high then Ok (record { low = low; high = high }) else Err BadAddress
-
--- both addresses of a range
-abbrev pub range_of : List (List ℕ) → Result Span LineKind
-range_of [] = Err MissingWord
-range_of (low ∷ []) = Err MissingWord
-range_of (low ∷ high ∷ words) =
-    known BadAddress (ip4_plain low) (λ first.
-    known BadAddress (ip4_plain high) (λ last. span_to first last >>= alone words))
+prefix_span address free = addresses_between
+    (address / 2 ^ free * 2 ^ free) (address / 2 ^ free * 2 ^ free + (2 ^ free - 1))
 
 -- the bits that a mask of a network leaves: those that it hasn't stand at the right, and aren't all
 abbrev pub is_network_mask : ℕ → Bool
@@ -45,48 +30,50 @@ is_network_mask mask = bit_and (all_ones - mask) (all_ones - mask + 1) == 0 && n
 abbrev pub masked_span : ℕ → ℕ → Result Span LineKind
 masked_span address mask =
     if is_network_mask mask && bit_and address (all_ones - mask) == 0
-    then Ok (record { low = address; high = address + (all_ones - mask) })
-    else Err BadNetworkMask
+    then Ok (addresses_between address (address + (all_ones - mask))) else Err BadNetworkMask
 
 -- the length of a prefix after its slash
 abbrev pub prefixed : ℕ → List ℕ → Result Span LineKind
-prefixed address text = known BadNetworkMask (number_of 32 text) (λ bits.
-    Ok (prefix_span address (32 - bits)))
+prefixed address text = found BadNetworkMask (number_of 32 text) >>= λ bits.
+    Ok (prefix_span address (32 - bits))
 
 -- what may stand after an address: the length of its prefix after a slash, or its mask
 abbrev pub length_or_mask : ℕ → List ℕ → Result Span LineKind
 length_or_mask address [] = Err BadNetworkMask
 length_or_mask address (c ∷ cs) =
     if c == slash then prefixed address cs
-    else known BadNetworkMask (ip4_plain (c ∷ cs)) (masked_span address)
+    else (found BadNetworkMask (ip4_plain (c ∷ cs)) >>= masked_span address)
 
 -- an address and what stands after it, or nothing
-abbrev pub network_of : ℕ → List (List ℕ) → Result Span LineKind
-network_of address [] = Ok (one_span address)
-network_of address (word ∷ words) = length_or_mask address word >>= alone words
+abbrev pub network_of : ℕ → List (List ℕ) → Result (After Span) LineKind
+network_of address [] = done (addresses_between address address) []
+network_of address (word ∷ words) = length_or_mask address word >>= λ span. done span words
 
--- an address with the length of its prefix in one word, or one that other words may follow
-abbrev pub plain_member : List ℕ → List (List ℕ) → Option (List ℕ × List ℕ) → Result Span LineKind
+-- an address with the length of its prefix in one word, or one that another word may follow
+abbrev pub plain_member : List ℕ → List (List ℕ) → Option (List ℕ × List ℕ)
+    → Result (After Span) LineKind
 plain_member word words None =
-    known BadAddress (ip4_plain word) (λ address. network_of address words)
-plain_member word words (Some cut) =
-    known BadAddress (ip4_plain cut.0) (λ address. prefixed address cut.1) >>= alone words
+    found BadAddress (ip4_plain word) >>= λ address. network_of address words
+plain_member word words (Some cut) = found BadAddress (ip4_plain cut.0) >>= λ address.
+    (prefixed address cut.1 >>= λ span. done span words)
 
--- one host
-abbrev pub host_member : List (List ℕ) → Result Span LineKind
-host_member [] = Err MissingWord
-host_member (word ∷ words) =
-    known BadAddress (ip4_plain word) (λ address. alone words (one_span address))
+-- both addresses of a range
+abbrev pub range_of : List (List ℕ) → Result (After Span) LineKind
+range_of words = required words >>- λ low rest. (required rest >>- λ high left.
+    (found BadAddress (ip4_plain low) >>= λ first. (found BadAddress (ip4_plain high) >>= λ last.
+    (if nat_le first last then done (addresses_between first last) left else Err BadAddress))))
 
--- the addresses of a member of a group of networks
-abbrev pub network_member : List ℕ → List (List ℕ) → Result Span LineKind
+-- the addresses of a member of a group of networks that begins with a word
+abbrev pub network_member : List ℕ → List (List ℕ) → Result (After Span) LineKind
 network_member word words =
-    if bytes_eq word (codes "any") then alone words (record { low = 0; high = all_ones })
-    else (if bytes_eq word (codes "host") then host_member words
+    if bytes_eq word (codes "any") then done (addresses_between 0 all_ones) words
+    else (if bytes_eq word (codes "host")
+    then (address_word BadAddress words >>- λ address rest.
+    done (addresses_between address address) rest)
     else (if bytes_eq word (codes "range") then range_of words
     else plain_member word words (cut_at slash word)))
 
--- the words after the first one
+-- the addresses of a member, after which nothing stands
 abbrev pub network_of_words : List (List ℕ) → Result Span LineKind
-network_of_words [] = Err MissingWord
-network_of_words (word ∷ words) = network_member word words
+network_of_words words = required words >>- λ word rest.
+    (network_member word rest >>- λ span left. alone left span)

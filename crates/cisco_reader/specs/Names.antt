@@ -1,15 +1,14 @@
--- Words that name ports and protocols, and numbers in decimal (Cisco IOS Security Command
--- Reference, "permit (IP)", "Keywords for TCP and UDP ports" and the protocols of its syntax).
-use Rattle.std.specs.Prelude.{ℕ, Bool, true, false, ◌&&◌, nat_le, if◌then◌else◌, codes, List, [], ◌∷◌}
+-- Words that are known in a configuration, as `show running-config` writes it, numbers in decimal,
+-- and words that name ports and protocols (Cisco IOS Security Command Reference, "permit (IP)",
+-- "Keywords for TCP and UDP ports" and the protocols of its syntax; Cisco IOS Master Command List,
+-- commands of the global configuration mode).
+use Rattle.std.specs.Prelude.{ℕ, Bool, true, false, ◌&&◌, nat_le, if◌then◌else◌, is_some, codes, List, [], ◌∷◌}
 use Rattle.std.specs.Prelude.{◌++◌, length, Option, Some, None}
 use Rattle.std.specs.Str.{bytes_eq}
 use Rattle.text_scan.specs.Digits.{are_digits, place_value}
 use Rattle.text_scan.specs.Parts.{words_of}
-
--- a word is one of some words
-unfoldable pub is_among : List ℕ → List (List ℕ) → Bool
-is_among word [] = false
-is_among word (one ∷ ones) = if bytes_eq one word then true else is_among word ones
+use Rattle.cisco_reader.specs.declared.names.Known.{Known}
+use Rattle.cisco_reader.specs.declared.names.Known.TheVariants as known
 
 -- a word has a byte
 abbrev pub is_filled : List ℕ → Bool
@@ -20,6 +19,20 @@ abbrev pub number_of : ℕ → List ℕ → Option ℕ
 number_of greatest word =
     if is_filled word && are_digits 10 word && nat_le (place_value 10 word) greatest
     then Some (place_value 10 word) else None
+
+-- the greatest number of 64 bits
+abbrev pub max_count : ℕ
+max_count = 18446744073709551615
+
+-- the number that may stand first
+abbrev pub first_number : List (List ℕ) → Option ℕ
+first_number [] = None
+first_number (word ∷ words) = number_of max_count word
+
+-- the words after a number that may stand first
+abbrev pub after_number : List (List ℕ) → List (List ℕ)
+after_number [] = []
+after_number (word ∷ words) = if is_some (number_of max_count word) then words else word ∷ words
 
 -- the greatest port
 abbrev pub max_port : ℕ
@@ -68,6 +81,13 @@ abbrev pub protocol_of : List ℕ → Option ℕ
 protocol_of word =
     first_of (number_named word (words_of protocol_table)) (number_of max_protocol word)
 
+-- ---- words
+
+-- a word is one of some words
+unfoldable pub is_among : List ℕ → List (List ℕ) → Bool
+is_among word [] = false
+is_among word (one ∷ ones) = if bytes_eq one word then true else is_among word ones
+
 -- the words that begin a comparison that a rule can't say: of flags, fragments, marks, times or
 -- states
 unfoldable pub compared_words : List ℕ
@@ -77,6 +97,56 @@ compared_words =
     ++ codes "flow-label ack fin psh rst syn urg established match-all match-any "
     ++ codes "tcp-flags-mask"
 
--- the word is one of them
-abbrev pub is_compared : List ℕ → Bool
-is_compared word = is_among word (words_of compared_words)
+-- the words of a log
+unfoldable pub log_words : List ℕ
+log_words = codes "log log-input"
+
+-- the words that begin entries of numbered lists
+unfoldable pub entry_words : List ℕ
+entry_words = codes "permit deny remark dynamic"
+
+-- the words that begin parts of a configuration without entries of lists, in the order of the
+-- alphabet
+unfoldable pub part_words : List ℕ
+part_words =
+    codes "aaa access-session alias archive arp authentication bba-group bfd boot boot-end-marker "
+    ++ codes "boot-start-marker bridge buffers Building call call-home card cdp class-map clns "
+    ++ codes "clock config-register control-plane controller crypto cts Current device-tracking "
+    ++ codes "diagnostic dial-peer dialer dialer-list dot11 dot1x dspfarm enable epm errdisable "
+    ++ codes "ethernet event exception facility-alarm flow frame-relay ftp-server hostname "
+    ++ codes "hw-module identity interface ip ipc ipv6 ipx isdn kerberos key kron l2 l2tp-class "
+    ++ codes "l2vpn lacp ldap license line lldp logging login mab mac mac-address-table map-class "
+    ++ codes "map-list memory memory-size mls modemcap monitor mpls multilink netconf netconf-yang "
+    ++ codes "network-clock network-policy ntp onep parameter-map parser pcep platform policy-map "
+    ++ codes "port-channel power privilege process prompt pseudowire-class ptp qos queue-list "
+    ++ codes "radius radius-server redundancy restconf rmon route-map router rtr sampler scheduler "
+    ++ codes "sdm security service service-template shell sip-ua snmp snmp-server software "
+    ++ codes "spanning-tree stackwise standby subscriber switch system tacacs tacacs-server "
+    ++ codes "telemetry template tftp-server track transceiver tunnel udld upgrade username Using "
+    ++ codes "version virtual-service virtual-template vlan voice voice-port vpdn vpdn-group vrf "
+    ++ codes "vtp wireless wlan wsma x25 zone zone-pair"
+
+-- the words of a kind
+abbrev pub words_for : Known → List ℕ
+words_for known.Compared = compared_words
+words_for known.Log = log_words
+words_for known.NumberedEntry = entry_words
+words_for known.Part = part_words
+words_for known.Entry = codes "permit deny remark evaluate"
+words_for known.End = codes "exit end"
+words_for known.Named = codes "ip ipv6 mac arp ipx appletalk ethernet-services hardware"
+words_for known.Address = codes "any host object-group addrgroup net-group"
+words_for known.Ip = codes "ip ipv6"
+words_for known.GroupKind = codes "network service v6-network v6-service security"
+words_for known.Unread = codes "compiled rate-limit dynamic-extended"
+words_for known.UnreadKind = codes "role-based fqdn"
+words_for known.Setting = codes "log-update logging persistent helper match-local-traffic"
+
+-- the word is one of a kind
+abbrev pub is_known : Known → List ℕ → Bool
+is_known kind word = is_among word (words_of (words_for kind))
+
+-- the first word is one of a kind
+abbrev pub begins_known : Known → List (List ℕ) → Bool
+begins_known kind [] = false
+begins_known kind (word ∷ words) = is_known kind word

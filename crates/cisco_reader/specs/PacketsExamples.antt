@@ -5,27 +5,19 @@ use Rattle.list_chains.specs.declared.span.Span.{Span}
 use Rattle.list_chains.specs.Chains.{ListRule}
 use Rattle.cisco_reader.specs.declared.entry.Verdict.TheVariants.{Permit, Deny}
 use Rattle.cisco_reader.specs.declared.packets.Answers.TheVariants.{Line, Verdict}
-use Rattle.cisco_reader.specs.declared.protocols.Protocols.TheVariants.{TcpUdp}
-use Rattle.cisco_reader.specs.Packets.{EntryParts, all_packets, answer_of, from_ports, from_rules}
-use Rattle.cisco_reader.specs.Packets.{kept_ports, left_ports, service_rules}
+use Rattle.cisco_reader.specs.declared.services.Protocols.TheVariants.{Between, TcpUdp}
+use Rattle.cisco_reader.specs.Packets.{EntryPairs, answer_of, kept_ports, left_ports, service_rules}
 
 -- the numbers from one to another
 infixl 20 ◌to◌
 abbrev ◌to◌ : ℕ → ℕ → Span
 low to high = record { low = low; high = high }
 
--- an entry of line 8 for two sources and two destination ports, which leaves one source port out
-abbrev parts : EntryParts
-parts = record {
-  answer = 8;
-  left = from_ports all_packets (23 to 23) ∷ [];
-  sources = (1 to 1) ∷ (4 to 7) ∷ [];
-  destinations = (9 to 9) ∷ [];
-  source_ports = (0 to 65535) ∷ [];
-  destination_ports = (80 to 80) ∷ (443 to 443) ∷ [];
-}
+-- an entry of line 8 for some sources
+abbrev pairs : List Span → EntryPairs
+pairs sources = record { answer = 8; sources = sources; destinations = (9 to 9) ∷ [] }
 
--- its rule for one source and one port
+-- its rule for one source and one port, which leaves one source port out
 abbrev rule : Span → Span → ListRule (List Span)
 rule source port = record {
   userdata = 8;
@@ -34,8 +26,12 @@ rule source port = record {
   target = Decide;
 }
 
--- one for each pair
-four_rules : from_rules parts (record all_packets { protocol = 6 to 6 })
+-- one for each pair of two sources and two destination ports
+four_rules : service_rules (pairs ((1 to 1) ∷ (4 to 7) ∷ [])) (record {
+  protocols = Between (6 to 6);
+  source = Some (record { negated = true; ports = (23 to 23) ∷ [] });
+  destination = Some (record { negated = false; ports = (80 to 80) ∷ (443 to 443) ∷ [] });
+})
     ≡ rule (1 to 1) (80 to 80) ∷ rule (1 to 1) (443 to 443) ∷ rule (4 to 7) (80 to 80)
     ∷ rule (4 to 7) (443 to 443) ∷ []
 four_rules = refl
@@ -50,13 +46,11 @@ served protocol = record {
 }
 
 -- `tcp-udp` is one for each of both
-both : service_rules
-    (record { answer = 8; sources = (1 to 1) ∷ []; destinations = (9 to 9) ∷ [] })
-    (record {
-      protocols = TcpUdp;
-      source = None;
-      destination = Some (record { negated = false; ports = (53 to 53) ∷ [] });
-    })
+both : service_rules (pairs ((1 to 1) ∷ [])) (record {
+  protocols = TcpUdp;
+  source = None;
+  destination = Some (record { negated = false; ports = (53 to 53) ∷ [] });
+})
     ≡ served (6 to 6) ∷ served (17 to 17) ∷ []
 both = refl
 

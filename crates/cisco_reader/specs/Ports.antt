@@ -1,17 +1,17 @@
 -- Comparisons of ports (Cisco IOS Security Command Reference, "permit (IP)", operator and port):
 -- `eq` and `neq` with up to 10 ports, `gt`, `lt` and `range`.
-use Rattle.std.specs.Prelude.{ℕ, ◌+◌, ◌-◌, ◌==◌, Bool, true, false, nat_lt, if◌then◌else◌, codes}
-use Rattle.std.specs.Prelude.{List, [], ◌∷◌, Option, Some, None, Result, Ok, Err}
+use Rattle.std.specs.Prelude.{ℕ, ◌+◌, ◌-◌, ◌==◌, Bool, true, false, nat_le, nat_lt, is_some, if◌then◌else◌, codes}
+use Rattle.std.specs.Prelude.{List, [], ◌∷◌, ◌++◌, length, Option, Some, None, Result, Ok, Err}
 use Rattle.std.specs.Str.{bytes_eq}
 use Rattle.list_chains.specs.declared.span.Span.{Span}
 use Rattle.cisco_reader.specs.declared.ports.Operator.{Operator}
 use Rattle.cisco_reader.specs.declared.ports.Operator.TheVariants as operator
 use Rattle.cisco_reader.specs.declared.ports.PortPart.{PortPart}
 use Rattle.cisco_reader.specs.declared.fault.LineKind.{LineKind}
-use Rattle.cisco_reader.specs.declared.fault.LineKind.TheVariants.{BadPort, MissingWord}
-use Rattle.cisco_reader.specs.Names.{max_port, port_of}
-use Rattle.cisco_reader.specs.PortList.{listed}
-use Rattle.cisco_reader.specs.Read.{After, ◌>>=◌, taken}
+use Rattle.cisco_reader.specs.declared.fault.LineKind.TheVariants.{BadPort}
+use Rattle.cisco_reader.specs.Names.{port_of}
+use Rattle.cisco_reader.specs.PortList.{listed, ports_above, ports_below, ports_between}
+use Rattle.cisco_reader.specs.Read.{After, ◌>>=◌, ◌>>-◌, done, found, one_word, rest_of}
 
 -- the comparison that a word names
 abbrev pub operator_named : List ℕ → Option Operator
@@ -22,47 +22,27 @@ operator_named word =
     else (if bytes_eq word (codes "lt") then Some operator.Less
     else (if bytes_eq word (codes "range") then Some operator.Range else None))))
 
+-- the port that a word is
+abbrev pub port_word : List ℕ → Result ℕ LineKind
+port_word word = found BadPort (port_of word)
+
 -- the port that comes next
 abbrev pub next_port : List (List ℕ) → Result (After ℕ) LineKind
-next_port [] = Err MissingWord
-next_port (word ∷ words) =
-    taken BadPort (port_of word) (λ number. record { value = number; words = words })
+next_port = one_word port_word
 
--- the ports above one
-abbrev pub ports_above : ℕ → List Span
-ports_above port = if port == max_port then [] else record { low = port + 1; high = max_port } ∷ []
+-- what stands after eq and neq: some ports, or in a group one
+abbrev pub equals : Bool → List (List ℕ) → Result (After (List Span)) LineKind
+equals true words = next_port words >>- λ port rest. done (ports_between port port) rest
+equals false words = listed [] words
 
--- the ports below one
-abbrev pub ports_below : ℕ → List Span
-ports_below port = if port == 0 then [] else record { low = 0; high = port - 1 } ∷ []
-
--- the ports from one to another
-abbrev pub range_of : ℕ → After ℕ → Result (After (List Span)) LineKind
-range_of low high =
-    if nat_lt high.value low then Err BadPort
-    else Ok (record { value = record { low = low; high = high.value } ∷ []; words = high.words })
-
--- what stands after gt, lt and range
-abbrev pub above : List (List ℕ) → Result (After (List Span)) LineKind
-above words =
-    next_port words >>= λ port. Ok (record { value = ports_above port.value; words = port.words })
-
--- the ports below one
-abbrev pub below : List (List ℕ) → Result (After (List Span)) LineKind
-below words =
-    next_port words >>= λ port. Ok (record { value = ports_below port.value; words = port.words })
-
--- the ports from one to another
-abbrev pub range : List (List ℕ) → Result (After (List Span)) LineKind
-range words = next_port words >>= λ low. (next_port low.words >>= range_of low.value)
-
--- what stands after a comparison
-abbrev pub compared : Operator → List (List ℕ) → Result (After (List Span)) LineKind
-compared operator.Equal words = listed [] words
-compared operator.NotEqual words = listed [] words
-compared operator.Greater words = above words
-compared operator.Less words = below words
-compared operator.Range words = range words
+-- what stands after a comparison, in a group or in an entry
+abbrev pub compared : Bool → Operator → List (List ℕ) → Result (After (List Span)) LineKind
+compared once operator.Equal words = equals once words
+compared once operator.NotEqual words = equals once words
+compared once operator.Greater words = next_port words >>- λ port rest. done (ports_above port) rest
+compared once operator.Less words = next_port words >>- λ port rest. done (ports_below port) rest
+compared once operator.Range words = next_port words >>- λ low rest. (next_port rest >>- λ high left.
+    (if nat_lt high low then Err BadPort else done (ports_between low high) left))
 
 -- the ports are left out after neq
 abbrev pub is_negated : Operator → Bool
@@ -73,44 +53,25 @@ is_negated operator.Less = false
 is_negated operator.Range = false
 
 -- the ports after a comparison, with what it is
-abbrev pub with_operator : Operator → List (List ℕ) → Result (After (Option PortPart)) LineKind
-with_operator it words = compared it words >>= λ read.
-    Ok (record {
-      value = Some (record { negated = is_negated it; ports = read.value });
-      words = read.words;
-    })
+abbrev pub with_operator : Bool → Operator → List (List ℕ)
+    → Result (After (Option PortPart)) LineKind
+with_operator once it words = compared once it words >>- λ ports rest.
+    done (Some (record { negated = is_negated it; ports = ports })) rest
 
--- one port
-abbrev pub one_port : List (List ℕ) → Result (After (List Span)) LineKind
-one_port words = next_port words >>= λ port.
-    Ok (record {
-      value = record { low = port.value; high = port.value } ∷ [];
-      words = port.words;
-    })
+-- the comparison that may stand next
+abbrev pub next_operator : List (List ℕ) → Option Operator
+next_operator [] = None
+next_operator (word ∷ words) = operator_named word
 
--- what stands after a comparison in a group, where `eq` and `neq` have one port
-abbrev pub compared_once : Operator → List (List ℕ) → Result (After (List Span)) LineKind
-compared_once operator.Equal words = one_port words
-compared_once operator.NotEqual words = one_port words
-compared_once operator.Greater words = above words
-compared_once operator.Less words = below words
-compared_once operator.Range words = range words
-
--- the same with what the comparison is
-abbrev pub with_one : Operator → List (List ℕ) → Result (After (Option PortPart)) LineKind
-with_one it words = compared_once it words >>= λ read.
-    Ok (record {
-      value = Some (record { negated = is_negated it; ports = read.value });
-      words = read.words;
-    })
+-- and the words after it
+abbrev pub after_operator : List (List ℕ) → List (List ℕ)
+after_operator words = if is_some (next_operator words) then rest_of words else words
 
 -- a comparison may stand there, or none
-abbrev pub or_none : List (List ℕ) → List (List ℕ) → Option Operator
-    → Result (After (Option PortPart)) LineKind
-or_none words rest None = Ok (record { value = None; words = words })
-or_none words rest (Some it) = with_operator it rest
+abbrev pub or_none : List (List ℕ) → Option Operator → Result (After (Option PortPart)) LineKind
+or_none words None = done None words
+or_none words (Some it) = with_operator false it (rest_of words)
 
 -- the ports that are compared after an address, if any are
 abbrev pub port_part : List (List ℕ) → Result (After (Option PortPart)) LineKind
-port_part [] = Ok (record { value = None; words = [] })
-port_part (word ∷ words) = or_none (word ∷ words) words (operator_named word)
+port_part words = or_none words (next_operator words)

@@ -2,7 +2,7 @@
 
 ghost use Rattle.std.specs.Prelude.{◌≡◌};
 
-use std::alloc::AllocError;
+use std::alloc::{AllocError, AllocFailed};
 
 /// Why a list isn't read.
 #[derive(Clone, Copy)]
@@ -20,6 +20,17 @@ impl From<AllocError> for CiscoFault {
     ghost from_gives = { λ _ fault. fault ≡ OutOfMemory };
 
     fn from(_: AllocError) -> CiscoFault {
+        CiscoFault::OutOfMemory
+    }
+}
+
+impl<T: Drop> From<AllocFailed<T>> for CiscoFault {
+    ghost use Rattle.std.specs.Prelude.{◌≡◌};
+    ghost use Rattle.cisco_reader.specs.declared.fault.CiscoFault.TheVariants.{OutOfMemory};
+
+    ghost from_gives = { λ _ fault. fault ≡ OutOfMemory };
+
+    fn from(_: AllocFailed<T>) -> CiscoFault {
         CiscoFault::OutOfMemory
     }
 }
@@ -120,13 +131,39 @@ pub(crate) enum Stop {
     OutOfMemory,
 }
 
-impl From<AllocError> for Stop {
+impl Stop {
+    ghost use Rattle.std.specs.Prelude.{◌≡◌};
+    ghost use Rattle.cisco_reader.specs.Read.{fault_of};
+
+    /// Why a list isn't read whose line isn't.
+    pub(crate) fn at(self, line: u32) -> CiscoFault
+        ensures { result ≡ fault_of line self }
+    {
+        match self {
+            Stop::Faulty(kind) => line_fault(line, kind),
+            Stop::OutOfMemory => CiscoFault::OutOfMemory,
+        }
+    }
+}
+
+impl<T: Drop> From<AllocFailed<T>> for Stop {
     ghost use Rattle.std.specs.Prelude.{◌≡◌};
     ghost use Rattle.cisco_reader.specs.declared.fault.Stop.TheVariants.{OutOfMemory};
 
     ghost from_gives = { λ _ stop. stop ≡ OutOfMemory };
 
-    fn from(_: AllocError) -> Stop {
+    fn from(_: AllocFailed<T>) -> Stop {
         Stop::OutOfMemory
+    }
+}
+
+impl From<LineKind> for Stop {
+    ghost use Rattle.std.specs.Prelude.{◌≡◌};
+    ghost use Rattle.cisco_reader.specs.declared.fault.Stop.TheVariants.{Faulty};
+
+    ghost from_gives = { λ kind stop. stop ≡ Faulty kind };
+
+    fn from(kind: LineKind) -> Stop {
+        Stop::Faulty(kind)
     }
 }

@@ -1,14 +1,14 @@
 //! Groups of a configuration, by their names, each with the lines of its members.
 
 ghost use Rattle.std.specs.Prelude.{◌≡◌, ◌<◌, length, IfSome};
-ghost use Rattle.cisco_reader.specs.Groups.{group_kinds, group_place, has_kind, is_kind, place_for};
+ghost use Rattle.cisco_reader.specs.Groups.{group_place, has_kind, place_for};
 
 use crate::fault::{LineKind, Stop};
-use crate::heads::{Head, head_of, rest_of};
-use crate::names::is_among;
-use std::alloc::{AllocError, Global};
+use crate::heads::{Head, head_of};
+use crate::names::Known;
+use crate::words::Words;
+use std::alloc::Global;
 use std::marker::Model;
-use text_scan::next_word;
 
 /// A line of a group. Contracts see its number and its words.
 #[derive(Drop)]
@@ -45,10 +45,10 @@ impl<'a> Line<'a> {
     }
 
     /// What stands in it.
-    pub(crate) fn text(&self) -> &'a [u8]
-        ensures { words_of result.now ≡ self.now.words }
+    pub(crate) fn words(&self) -> Words<'a>
+        ensures { result ≡ self.now.words }
     {
-        self.text
+        Words::of(self.text)
     }
 
     /// The same once more.
@@ -83,9 +83,10 @@ impl<'a> Model for Group<'a> {
 }
 
 impl<'a> Group<'a> {
-    ghost use Rattle.std.specs.Prelude.{◌≡◌, [], OnOk};
+    ghost use Rattle.std.specs.Prelude.{◌≡◌, [], Ok};
     ghost use Rattle.std.specs.Str.{bytes_eq};
     ghost use Rattle.cisco_reader.specs.Groups.{longer};
+    ghost use Rattle.cisco_reader.specs.Read.{Becomes};
 
     /// A group without lines.
     fn new(alloc: Global, kind: &'a [u8], name: &'a [u8]) -> Group<'a>
@@ -120,8 +121,8 @@ impl<'a> Group<'a> {
     }
 
     /// Puts a line after the others.
-    fn push(&mut self, line: Line<'a>) -> Result<(), AllocError>
-        ensures { OnOk result (self.new ≡ longer self.old line.entry) }
+    fn push(&mut self, line: Line<'a>) -> Result<(), Stop>
+        ensures { Becomes (Ok (longer self.old line.entry)) result self.new }
     {
         self.lines.push(line)?;
         Ok(())
@@ -160,21 +161,6 @@ pub(crate) fn place_for(groups: &[Group], kind: &[u8], name: &[u8]) -> Result<us
     }
 }
 
-/// The kinds of groups.
-#[tactic(auto, unfolding(crate::specs::Groups::group_kinds))]
-fn group_kinds() -> &'static [u8]
-    ensures { result.now ≡ group_kinds }
-{
-    b"network service v6-network v6-service security".as_slice()
-}
-
-/// Whether a word is one of them.
-fn is_kind(word: &[u8]) -> bool
-    ensures { result ≡ is_kind word.now }
-{
-    is_among(word, group_kinds())
-}
-
 /// The groups so far. Contracts see a record of its parts.
 #[derive(Drop)]
 pub(crate) struct Groups<'a> {
@@ -192,10 +178,10 @@ impl<'a> Model for Groups<'a> {
 }
 
 impl<'a> Groups<'a> {
-    ghost use Rattle.std.specs.Prelude.{◌≡◌, None, IfErr, OnOk, Ok, Err};
+    ghost use Rattle.std.specs.Prelude.{◌≡◌, Ok};
     ghost use Rattle.text_scan.specs.Parts.{words_of};
-    ghost use Rattle.cisco_reader.specs.Stops.{Refuses};
     ghost use Rattle.cisco_reader.specs.Groups as meant;
+    ghost use Rattle.cisco_reader.specs.Read.{Becomes};
 
     /// Nothing was read.
     pub(crate) fn new(alloc: Global) -> Groups<'a>
@@ -215,68 +201,48 @@ impl<'a> Groups<'a> {
         self.groups
     }
 
-    /// Puts a group without lines after the others.
-    fn push(&mut self, kind: &'a [u8], name: &'a [u8]) -> Result<(), AllocError>
-        ensures { OnOk result (meant.begun self.old kind.now name.now None ≡ Ok self.new) }
-    {
-        self.inside = Some(self.groups.len());
-        self.groups.push(Group::new(self.alloc, kind, name))?;
-        Ok(())
-    }
-
     /// A group of a kind that is known, which may have been begun.
     fn begin(&mut self, kind: &'a [u8], name: &'a [u8]) -> Result<(), Stop>
-        ensures ok { OnOk result (meant.begun self.old kind.now name.now
-            (meant.group_place name.now self.old.groups) ≡ Ok self.new) }
-        ensures err { IfErr result (Refuses (meant.begun self.old kind.now name.now
-            (meant.group_place name.now self.old.groups))) }
+        ensures { Becomes (meant.begun self.old kind.now name.now
+            (meant.group_place name.now self.old.groups)) result self.new }
     {
         match group_place(&self.groups, name) {
             Some(place) => {
                 if !has_kind(kind, &self.groups, place) {
-                    return Err(Stop::Faulty(LineKind::KindTwice));
+                    return Err(LineKind::KindTwice.into());
                 }
                 self.inside = Some(place);
-                Ok(())
             }
             None => {
-                self.push(kind, name)?;
-                Ok(())
+                self.inside = Some(self.groups.len());
+                self.groups.push(Group::new(self.alloc, kind, name))?;
             }
         }
+        Ok(())
     }
 
-    /// A group of a kind and a name.
-    fn add_name(&mut self, kind: &'a [u8], name: &'a [u8]) -> Result<(), Stop>
-        ensures ok { OnOk result (meant.with_name self.old kind.now name.now ≡ Ok self.new) }
-        ensures err { IfErr result (Refuses (meant.with_name self.old kind.now name.now)) }
+    /// What stands after `object-group`: a kind and a name.
+    fn add_group(&mut self, words: &mut Words<'a>) -> Result<(), Stop>
+        ensures { Becomes (meant.with_group self.old words.old) result self.new }
     {
-        if !is_kind(kind) {
-            return Err(Stop::Faulty(LineKind::BadGroup));
+        let Some(kind) = words.next() else {
+            return Err(LineKind::BadGroup.into());
+        };
+        let Some(name) = words.next() else {
+            return Err(LineKind::BadGroup.into());
+        };
+        if words.next().is_some() {
+            return Err(LineKind::BadGroup.into());
+        }
+        if !Known::GroupKind.has(kind) {
+            return Err(LineKind::BadGroup.into());
         }
         self.begin(kind, name)
     }
 
-    /// What stands after `object-group`.
-    fn add_group(&mut self, text: &'a [u8]) -> Result<(), Stop>
-        ensures ok { OnOk result (meant.with_group self.old (words_of text.now) ≡ Ok self.new) }
-        ensures err { IfErr result (Refuses (meant.with_group self.old (words_of text.now))) }
-    {
-        let Some((kind, rest)) = next_word(text) else {
-            return Err(Stop::Faulty(LineKind::BadGroup));
-        };
-        let Some((name, rest)) = next_word(rest) else {
-            return Err(Stop::Faulty(LineKind::BadGroup));
-        };
-        if next_word(rest).is_some() {
-            return Err(Stop::Faulty(LineKind::BadGroup));
-        }
-        self.add_name(kind, name)
-    }
-
     /// Puts a line into the group of a place.
-    fn push_line(&mut self, line: Line<'a>, place: usize) -> Result<(), AllocError>
-        ensures { OnOk result (self.new ≡ meant.with_put self.old line.entry place) }
+    fn put(&mut self, line: Line<'a>, place: usize) -> Result<(), Stop>
+        ensures { Becomes (Ok (meant.with_put self.old line.entry place)) result self.new }
     {
         if place < self.groups.len() {
             self.groups[place].push(line)?;
@@ -284,63 +250,42 @@ impl<'a> Groups<'a> {
         Ok(())
     }
 
-    /// The line of a member of the group of a place.
-    fn add_member(&mut self, number: u32, place: usize, text: &'a [u8]) -> Result<(), Stop>
-        ensures ok { OnOk result
-            (meant.with_member number self.old place (words_of text.now) ≡ Ok self.new) }
-        ensures err { IfErr result
-            (Refuses (meant.with_member number self.old place (words_of text.now))) }
+    /// A line that begins nothing.
+    fn add_inner(&mut self, number: u32, text: &'a [u8]) -> Result<(), Stop>
+        ensures { Becomes (meant.with_inner number self.old (words_of text.now) self.old.inside)
+            result self.new }
     {
-        let Some((word, _)) = next_word(text) else {
+        let Some(place) = self.inside else {
+            return Ok(());
+        };
+        let Some(word) = Words::of(text).next() else {
             return Ok(());
         };
         if word == b"no".as_slice() {
-            return Err(Stop::Faulty(LineKind::TakenOut));
+            return Err(LineKind::TakenOut.into());
         }
         if word == b"description".as_slice() {
             return Ok(());
         }
-        self.push_line(Line::new(number, text), place)?;
-        Ok(())
-    }
-
-    /// A line that begins nothing.
-    fn add_inner(&mut self, number: u32, text: &'a [u8]) -> Result<(), Stop>
-        ensures ok { OnOk result
-            (meant.with_inner number self.old (words_of text.now) self.old.inside
-            ≡ Ok self.new) }
-        ensures err { IfErr result
-            (Refuses (meant.with_inner number self.old (words_of text.now) self.old.inside)) }
-    {
-        match self.inside {
-            Some(place) => self.add_member(number, place, text),
-            None => Ok(()),
-        }
-    }
-
-    /// A line, by what it is.
-    fn add_head(&mut self, number: u32, text: &'a [u8], head: Head) -> Result<(), Stop>
-        ensures ok { OnOk result
-            (meant.with_group_head number self.old (words_of text.now) head ≡ Ok self.new) }
-        ensures err { IfErr result
-            (Refuses (meant.with_group_head number self.old (words_of text.now) head)) }
-    {
-        match head {
-            Head::Group => self.add_group(rest_of(text)),
-            Head::Entry | Head::Inside => self.add_inner(number, text),
-            Head::Skipped | Head::Unknown => Ok(()),
-            Head::Numbered | Head::Named | Head::TakenOut | Head::End | Head::Part => {
-                self.inside = None;
-                Ok(())
-            }
-        }
+        self.put(Line::new(number, text), place)
     }
 
     /// A line of a number, from 1.
     pub(crate) fn add_line(&mut self, number: u32, text: &'a [u8]) -> Result<(), Stop>
-        ensures ok { OnOk result (meant.with_group_line number self.old text.now ≡ Ok self.new) }
-        ensures err { IfErr result (Refuses (meant.with_group_line number self.old text.now)) }
+        ensures { Becomes (meant.with_group_line number self.old text.now) result self.new }
     {
-        self.add_head(number, text, head_of(text))
+        match head_of(text) {
+            Head::Group => {
+                let mut words = Words::of(text);
+                words.next();
+                self.add_group(&mut words)
+            }
+            Head::Entry | Head::Inside => self.add_inner(number, text),
+            Head::Skipped | Head::Unknown => Ok(()),
+            Head::Numbered | Head::Named | Head::TakenOut | Head::Part => {
+                self.inside = None;
+                Ok(())
+            }
+        }
     }
 }

@@ -1,15 +1,12 @@
-//! What a line of a configuration is.
+//! What a line of a configuration is, and where the lines after commands of lists stand.
 
-ghost use Rattle.std.specs.Prelude.{◌≡◌, ◌∷◌};
+ghost use Rattle.std.specs.Prelude.{◌≡◌};
 ghost use Rattle.text_scan.specs.Parts.{words_of};
-ghost use Rattle.cisco_reader.specs.Heads.{address_words, after_number, after_sequence, begins, begins_among};
-ghost use Rattle.cisco_reader.specs.Heads.{begins_number, begins_part, command_head, entry_head, head_of, in_range};
-ghost use Rattle.cisco_reader.specs.Heads.{is_address, is_end, is_entry, is_extended, is_group, is_inside, is_ip};
-ghost use Rattle.cisco_reader.specs.Heads.{is_named, is_numbered, is_other, is_part, is_standard, may_be_extended};
-ghost use Rattle.cisco_reader.specs.Heads.{named_words, other_head, part_words, removed_head, rest_of};
+ghost use Rattle.cisco_reader.specs.Heads as meant;
 
-use crate::names::{is_among, number};
-use text_scan::next_word;
+use crate::fault::LineKind;
+use crate::names::{Known, number};
+use crate::words::Words;
 
 /// What a line is.
 #[derive(Clone, Copy)]
@@ -26,9 +23,7 @@ pub(crate) enum Head {
     TakenOut,
     /// An entry of a list.
     Entry,
-    /// It ends a part.
-    End,
-    /// It begins another part.
+    /// It ends a part, or begins another one.
     Part,
     /// It begins with a blank, and is none of these.
     Inside,
@@ -36,36 +31,16 @@ pub(crate) enum Head {
     Unknown,
 }
 
-/// The text after the first word.
-pub(crate) fn rest_of(text: &[u8]) -> &[u8]
-    ensures { words_of result.now ≡ rest_of (words_of text.now) }
-{
-    match next_word(text) {
-        Some((_, rest)) => rest,
-        None => text,
-    }
-}
-
-/// Whether the first word is one of those between blanks.
-pub(crate) fn begins_among(text: &[u8], words: &[u8]) -> bool
-    ensures { result ≡ begins_among (words_of text.now) (words_of words.now) }
-{
-    match next_word(text) {
-        Some((word, _)) => is_among(word, words),
-        None => false,
-    }
-}
-
 /// Whether a line begins with a blank.
 fn is_inside(line: &[u8]) -> bool
-    ensures { result ≡ is_inside line.now }
+    ensures { result ≡ meant.is_inside line.now }
 {
     matches!(line, [b' ' | b'\t', ..])
 }
 
 /// Whether a word begins with a byte.
 fn begins(byte: u8, word: &[u8]) -> bool
-    ensures { result ≡ begins byte word.now }
+    ensures { result ≡ meant.begins byte word.now }
 {
     match word {
         [first, ..] => *first == byte,
@@ -75,7 +50,7 @@ fn begins(byte: u8, word: &[u8]) -> bool
 
 /// Whether a word begins with a digit.
 fn begins_number(word: &[u8]) -> bool
-    ensures { result ≡ begins_number word.now }
+    ensures { result ≡ meant.begins_number word.now }
 {
     match word {
         [first, ..] => 48 <= *first && *first <= 57,
@@ -83,235 +58,103 @@ fn begins_number(word: &[u8]) -> bool
     }
 }
 
-/// The text after a number that may stand first.
-pub(crate) fn after_number(text: &[u8]) -> &[u8]
-    ensures { words_of result.now ≡ after_number (words_of text.now) }
+/// Whether a line is an entry of a list, with its number in the sequence or without.
+fn is_entry(line: &[u8]) -> bool
+    ensures { result ≡ meant.is_entry (words_of line.now) }
 {
-    match next_word(text) {
-        Some((word, rest)) => {
-            if number(word, u64::MAX).is_some() {
-                rest
-            } else {
-                text
-            }
-        }
-        None => text,
-    }
+    let mut words = Words::of(line);
+    words.skip(b"sequence");
+    words.number();
+    words.begins(Known::Entry)
 }
 
-/// The text after `sequence`, which stands before the number of an IPv6 entry.
-fn after_sequence(text: &[u8]) -> &[u8]
-    ensures { words_of result.now ≡ after_sequence (words_of text.now) }
+/// Whether words are what stands after `ip` in an entry whose first word is lost.
+fn is_address(words: &mut Words) -> bool
+    ensures { result ≡ meant.is_address words.old }
 {
-    match next_word(text) {
-        Some((word, rest)) => {
-            if word == b"sequence".as_slice() {
-                rest
-            } else {
-                text
-            }
-        }
-        None => text,
-    }
-}
-
-/// Whether a text is an entry of a list, with its number in the sequence or without.
-#[tactic(auto, unfolding(crate::specs::Heads::is_entry))]
-fn is_entry(text: &[u8]) -> bool
-    ensures { result ≡ is_entry (words_of text.now) }
-{
-    begins_among(
-        after_number(after_sequence(text)),
-        b"permit deny remark evaluate".as_slice(),
-    )
-}
-
-/// Whether a first word and the text after it end a part of a configuration.
-#[tactic(auto, unfolding(crate::specs::Heads::is_end))]
-fn is_end(first: &[u8], text: &[u8]) -> bool
-    ensures { result ≡ is_end first.now (words_of text.now) }
-{
-    match next_word(text) {
-        Some(_) => false,
-        None => is_among(first, b"exit end".as_slice()),
-    }
-}
-
-/// The protocols of lists with names, and `hardware`.
-#[tactic(auto, unfolding(crate::specs::Heads::named_words))]
-fn named_words() -> &'static [u8]
-    ensures { result.now ≡ named_words }
-{
-    b"ip ipv6 mac arp ipx appletalk ethernet-services hardware".as_slice()
-}
-
-/// Whether a first word and the text after it are a command of lists with names.
-#[tactic(auto, unfolding(crate::specs::Heads::is_named))]
-fn is_named(first: &[u8], text: &[u8]) -> bool
-    ensures { result ≡ is_named first.now (words_of text.now) }
-{
-    is_among(first, named_words()) && begins_among(text, b"access-list".as_slice())
-}
-
-/// Whether a first word is that of a numbered list.
-fn is_numbered(first: &[u8]) -> bool
-    ensures { result ≡ is_numbered first.now }
-{
-    first == b"access-list".as_slice()
-}
-
-/// Whether a first word begins a group.
-fn is_group(first: &[u8]) -> bool
-    ensures { result ≡ is_group first.now }
-{
-    first == b"object-group".as_slice()
-}
-
-/// The words that begin parts of a configuration without entries of lists.
-#[tactic(auto, unfolding(crate::specs::Heads::part_words))]
-fn part_words() -> &'static [u8]
-    ensures { result.now ≡ part_words }
-{
-    b"aaa access-session alias archive arp authentication bba-group bfd boot boot-end-marker \
-    boot-start-marker bridge buffers Building call call-home card cdp class-map clns clock \
-    config-register control-plane controller crypto cts Current device-tracking diagnostic \
-    dial-peer dialer dialer-list dot11 dot1x dspfarm enable epm errdisable ethernet event \
-    exception facility-alarm flow frame-relay ftp-server hostname hw-module identity interface ip \
-    ipc ipv6 ipx isdn kerberos key kron l2 l2tp-class l2vpn lacp ldap license line lldp logging \
-    login mab mac mac-address-table map-class map-list memory memory-size mls modemcap monitor \
-    mpls multilink netconf netconf-yang network-clock network-policy ntp onep parameter-map \
-    parser pcep platform policy-map port-channel power privilege process prompt pseudowire-class \
-    ptp qos queue-list radius radius-server redundancy restconf rmon route-map router rtr sampler \
-    scheduler sdm security service service-template shell sip-ua snmp snmp-server software \
-    spanning-tree stackwise standby subscriber switch system tacacs tacacs-server telemetry \
-    template tftp-server track transceiver tunnel udld upgrade username Using version \
-    virtual-service virtual-template vlan voice voice-port vpdn vpdn-group vrf vtp wireless wlan \
-    wsma x25 zone zone-pair"
-        .as_slice()
-}
-
-/// Whether a word is one of them.
-fn is_part(word: &[u8]) -> bool
-    ensures { result ≡ is_part word.now }
-{
-    is_among(word, part_words())
-}
-
-/// Words for addresses.
-#[tactic(auto, unfolding(crate::specs::Heads::address_words))]
-fn address_words() -> &'static [u8]
-    ensures { result.now ≡ address_words }
-{
-    b"any host object-group addrgroup net-group".as_slice()
-}
-
-/// Whether a text is what stands after `ip` in an entry whose first word is lost.
-#[tactic(auto, unfolding(crate::specs::Heads::is_address))]
-fn is_address(text: &[u8]) -> bool
-    ensures { result ≡ is_address (words_of text.now) }
-{
-    match next_word(text) {
-        Some((word, _)) => begins_number(word) || is_among(word, address_words()),
+    match words.next() {
+        Some(word) => begins_number(word) || Known::Address.has(word),
         None => true,
     }
 }
 
-/// Whether a word is one of IP.
-#[tactic(auto, unfolding(crate::specs::Heads::is_ip))]
-fn is_ip(word: &[u8]) -> bool
-    ensures { result ≡ is_ip word.now }
-{
-    is_among(word, b"ip ipv6".as_slice())
-}
-
-/// Whether a first word and the text after it begin another part of a configuration.
-#[tactic(auto, unfolding(crate::specs::Heads::begins_part))]
-fn begins_part(first: &[u8], text: &[u8]) -> bool
-    ensures { result ≡ begins_part first.now (words_of text.now) }
-{
-    if is_ip(first) {
-        return !is_address(text);
-    }
-    is_part(first)
-}
-
 /// What a line is that is no command of lists.
-fn other_head(inside: bool, first: &[u8], text: &[u8]) -> Head
-    ensures { result ≡ other_head inside first.now (words_of text.now) }
+fn other_head(inside: bool, first: &[u8], words: &mut Words) -> Head
+    ensures { result ≡ meant.other_head inside first.now words.old }
 {
     if inside {
-        Head::Inside
-    } else if begins_part(first, text) {
+        return Head::Inside;
+    }
+    let begins_part = if Known::Ip.has(first) {
+        !is_address(words)
+    } else {
+        Known::Part.has(first)
+    };
+    if begins_part {
         Head::Part
     } else {
         Head::Unknown
     }
 }
 
-/// What a line is, after its `no`.
-fn removed_head(inside: bool, text: &[u8]) -> Head
-    ensures { result ≡ removed_head inside (words_of text.now) }
+/// A command of numbered lists, of groups, or of lists with names.
+fn command_head(first: &[u8], words: &Words) -> Option<Head>
+    ensures { result ≡ meant.command_head first.now words.now }
 {
-    let Some((first, rest)) = next_word(text) else {
+    if first == b"access-list".as_slice() {
+        Some(Head::Numbered)
+    } else if first == b"object-group".as_slice() {
+        Some(Head::Group)
+    } else if Known::Named.has(first) && words.is_next(b"access-list") {
+        Some(Head::Named)
+    } else {
+        None
+    }
+}
+
+/// What a line is, after its `no`.
+fn removed_head(inside: bool, words: &mut Words) -> Head
+    ensures { result ≡ meant.removed_head inside words.old }
+{
+    let Some(first) = words.next() else {
         return Head::Unknown;
     };
-    if is_numbered(first) || is_group(first) || is_named(first, rest) {
+    if command_head(first, words).is_some() {
         return Head::TakenOut;
     }
-    other_head(inside, first, rest)
-}
-
-/// Whether a line is an entry, the end of a part, or of another part. `line` has all its words.
-fn entry_head(inside: bool, line: &[u8], first: &[u8], text: &[u8]) -> Head
-    requires { words_of line.now ≡ first.now ∷ words_of text.now }
-    ensures { result ≡ entry_head inside first.now (words_of text.now) }
-{
-    if is_entry(line) {
-        return Head::Entry;
-    }
-    if is_end(first, text) {
-        return Head::End;
-    }
-    other_head(inside, first, text)
-}
-
-/// Whether a line is a command of access lists or of groups. `line` has all its words.
-fn command_head(inside: bool, line: &[u8], first: &[u8], text: &[u8]) -> Head
-    requires { words_of line.now ≡ first.now ∷ words_of text.now }
-    ensures { result ≡ command_head inside first.now (words_of text.now) }
-{
-    if is_numbered(first) {
-        return Head::Numbered;
-    }
-    if is_group(first) {
-        return Head::Group;
-    }
-    if is_named(first, text) {
-        return Head::Named;
-    }
-    entry_head(inside, line, first, text)
+    other_head(inside, first, words)
 }
 
 /// What a line is.
 pub(crate) fn head_of(line: &[u8]) -> Head
-    ensures { result ≡ head_of line.now }
+    ensures { result ≡ meant.head_of line.now }
 {
     let inside = is_inside(line);
-    let Some((first, rest)) = next_word(line) else {
+    let mut words = Words::of(line);
+    let Some(first) = words.next() else {
         return Head::Skipped;
     };
     if begins(b'!', first) {
         return Head::Skipped;
     }
     if first == b"no".as_slice() {
-        return removed_head(inside, rest);
+        return removed_head(inside, &mut words);
     }
-    command_head(inside, line, first, rest)
+    if let Some(head) = command_head(first, &words) {
+        return head;
+    }
+    if is_entry(line) {
+        return Head::Entry;
+    }
+    if Known::End.has(first) && words.is_empty() {
+        return Head::Part;
+    }
+    other_head(inside, first, &mut words)
 }
 
 /// Whether a name is a number of a range as devices write it, without a zero before it.
 fn in_range(low: u64, high: u64, name: &[u8]) -> bool
-    ensures { result ≡ in_range low high name.now }
+    ensures { result ≡ meant.in_range low high name.now }
 {
     match number(name, high) {
         Some(number) => low <= number && !begins(b'0', name),
@@ -321,28 +164,167 @@ fn in_range(low: u64, high: u64, name: &[u8]) -> bool
 
 /// Whether a name is the number of an extended list of IPv4.
 pub(crate) fn is_extended(name: &[u8]) -> bool
-    ensures { result ≡ is_extended name.now }
+    ensures { result ≡ meant.is_extended name.now }
 {
     in_range(100, 199, name) || in_range(2000, 2699, name)
 }
 
 /// Whether a name is the number of a standard list.
 pub(crate) fn is_standard(name: &[u8]) -> bool
-    ensures { result ≡ is_standard name.now }
+    ensures { result ≡ meant.is_standard name.now }
 {
     in_range(1, 99, name) || in_range(1300, 1999, name)
 }
 
-/// Whether a name is the number of a list of another protocol.
-pub(crate) fn is_other(name: &[u8]) -> bool
-    ensures { result ≡ is_other name.now }
+/// Whether a name is the number of a list of another protocol, or sets something in its place.
+pub(crate) fn is_unread(name: &[u8]) -> bool
+    ensures { result ≡ meant.is_unread name.now }
 {
-    in_range(200, 1299, name)
+    in_range(200, 1299, name) || Known::Unread.has(name)
 }
 
 /// Whether a name is no number, or that of an extended list.
 pub(crate) fn may_be_extended(name: &[u8]) -> bool
-    ensures { result ≡ may_be_extended name.now }
+    ensures { result ≡ meant.may_be_extended name.now }
 {
     is_extended(name) || number(name, u64::MAX).is_none()
+}
+
+/// Where a line stands.
+#[derive(Clone, Copy)]
+pub(crate) enum Stage {
+    /// In a part that has no entries of lists.
+    Outside,
+    /// After a command that is a whole entry.
+    Entered,
+    /// In the list that is asked for.
+    Asked,
+    /// In another list of IP.
+    Other,
+    /// In a part whose entries aren't read.
+    Unread,
+}
+
+/// After a list of a name begins that is of another kind.
+fn other_stage(asked: &[u8], name: &[u8]) -> Result<Stage, LineKind>
+    ensures { result ≡ meant.other_stage asked.now name.now }
+{
+    if name == asked {
+        return Err(LineKind::NotExtended);
+    }
+    Ok(Stage::Other)
+}
+
+/// After a word that has to set something for lists, and begins none.
+fn setting_stage(word: &[u8]) -> Result<Stage, LineKind>
+    ensures { result ≡ meant.setting_stage word.now }
+{
+    if Known::Setting.has(word) {
+        return Ok(Stage::Outside);
+    }
+    Err(LineKind::BadList)
+}
+
+/// After a list of IP begins, by its kind and its name, or after a setting of two words.
+fn kind_stage(asked: &[u8], kind: &[u8], name: &[u8]) -> Result<Stage, LineKind>
+    ensures { result ≡ meant.kind_stage asked.now kind.now name.now }
+{
+    if kind == b"extended".as_slice() {
+        if !may_be_extended(name) {
+            return Err(LineKind::BadList);
+        }
+        if name == asked {
+            return Ok(Stage::Asked);
+        }
+        return Ok(Stage::Other);
+    }
+    if kind == b"standard".as_slice() {
+        return other_stage(asked, name);
+    }
+    if Known::UnreadKind.has(kind) {
+        return Ok(Stage::Unread);
+    }
+    setting_stage(kind)
+}
+
+/// After `ip access-list` and some words.
+fn ip_stage(asked: &[u8], words: &mut Words) -> Result<Stage, LineKind>
+    ensures { result ≡ meant.ip_stage asked.now words.old }
+{
+    let Some(kind) = words.next() else {
+        return Err(LineKind::BadList);
+    };
+    let Some(name) = words.next() else {
+        return setting_stage(kind);
+    };
+    if words.next().is_some() {
+        return setting_stage(kind);
+    }
+    kind_stage(asked, kind, name)
+}
+
+/// After `ipv6 access-list` and some words: a name, or a setting.
+fn ip6_stage(asked: &[u8], words: &mut Words) -> Result<Stage, LineKind>
+    ensures { result ≡ meant.ip6_stage asked.now words.old }
+{
+    let Some(name) = words.next() else {
+        return Err(LineKind::BadList);
+    };
+    if !words.is_empty() || Known::Setting.has(name) {
+        return setting_stage(name);
+    }
+    other_stage(asked, name)
+}
+
+/// After a command whose second word is `access-list`.
+pub(crate) fn named_stage(asked: &[u8], words: &mut Words) -> Result<Stage, LineKind>
+    ensures { result ≡ meant.named_stage asked.now words.old }
+{
+    let Some(first) = words.next() else {
+        return Err(LineKind::BadList);
+    };
+    words.next();
+    if first == b"ip".as_slice() {
+        return ip_stage(asked, words);
+    }
+    if first == b"ipv6".as_slice() {
+        return ip6_stage(asked, words);
+    }
+    if first == b"hardware".as_slice() {
+        return Ok(Stage::Outside);
+    }
+    Ok(Stage::Unread)
+}
+
+impl Stage {
+    ghost use Rattle.std.specs.Prelude.{◌≡◌};
+    ghost use Rattle.cisco_reader.specs.Heads as meant;
+
+    /// Whether a line stands in the list that is asked for.
+    pub(crate) fn is_asked(self) -> bool
+        ensures { result ≡ meant.is_asked self }
+    {
+        matches!(self, Stage::Asked)
+    }
+
+    /// After a comment, which ends the command before it.
+    pub(crate) fn after_comment(self) -> Stage
+        ensures { result ≡ meant.after_comment self }
+    {
+        match self {
+            Stage::Entered => Stage::Outside,
+            Stage::Outside | Stage::Asked | Stage::Other | Stage::Unread => self,
+        }
+    }
+
+    /// The fault of a line that is no entry and no command, where it stands among entries.
+    pub(crate) fn list_fault(self) -> Option<LineKind>
+        ensures { result ≡ meant.list_fault self }
+    {
+        match self {
+            Stage::Outside | Stage::Unread => None,
+            Stage::Entered => Some(LineKind::Wrapped),
+            Stage::Asked | Stage::Other => Some(LineKind::NoEntry),
+        }
+    }
 }

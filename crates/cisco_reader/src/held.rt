@@ -1,11 +1,10 @@
 //! What groups hold: the lines of their members, and what they stand for.
 
-ghost use Rattle.std.specs.Prelude.{◌≡◌, ◌<◌, ◌++◌, [], ◌∷◌, length, IfErr, IfOk, IfSome, MatchResult, OnOk, Ok, Err};
-ghost use Rattle.text_scan.specs.Parts.{words_of};
+ghost use Rattle.std.specs.Prelude.{◌≡◌, ◌<◌, ◌++◌, length, codes, IfSome, MatchResult, OnOk, Ok, Err};
 ghost use Rattle.cisco_reader.specs.Held as meant;
 ghost use Rattle.cisco_reader.specs.Members.{network_of_words};
+ghost use Rattle.cisco_reader.specs.Read.{Gives, is_next};
 ghost use Rattle.cisco_reader.specs.Services.{service_of_words};
-ghost use Rattle.cisco_reader.specs.Stops.{Fails};
 
 use crate::entry::{Addresses, Services};
 use crate::fault::{CiscoFault, LineKind, line_fault};
@@ -13,9 +12,9 @@ use crate::groups::{Group, Line, place_for};
 use crate::members::network_of_words;
 use crate::services::{Service, service_of_words};
 use crate::wildcard::spans_under;
+use crate::words::Words;
 use list_chains::Span;
 use std::alloc::{AllocError, Global};
-use text_scan::next_word;
 
 /// How many members a group may hold, with those of the groups in it.
 pub(crate) const MAX_HELD: usize = 65_536;
@@ -36,10 +35,10 @@ fn filled<'g, 'a>(lines: &'g [Line<'a>]) -> Result<&'g [Line<'a>], LineKind>
 }
 
 /// The lines of the group of a place.
-fn filled_at<'g, 'a>(groups: &'g [Group<'a>], place: usize) -> Result<&'g [Line<'a>], LineKind>
+fn lines_at<'g, 'a>(groups: &'g [Group<'a>], place: usize) -> Result<&'g [Line<'a>], LineKind>
     ensures { MatchResult result
-        (λ lines. meant.filled (meant.lines_at groups.now place) ≡ Ok lines.now)
-        (λ kind. meant.filled (meant.lines_at groups.now place) ≡ Err kind) }
+        (λ lines. meant.lines_at groups.now place ≡ Ok lines.now)
+        (λ kind. meant.lines_at groups.now place ≡ Err kind) }
 {
     match groups.get(place) {
         Some(group) => filled(group.lines()),
@@ -47,52 +46,20 @@ fn filled_at<'g, 'a>(groups: &'g [Group<'a>], place: usize) -> Result<&'g [Line<
     }
 }
 
-/// Whether a text names a group.
-fn names_group(text: &[u8]) -> bool
-    ensures { result ≡ meant.names_group (words_of text.now) }
-{
-    match next_word(text) {
-        Some((word, _)) => word == b"group-object".as_slice(),
-        None => false,
-    }
-}
-
-/// The group of a kind that is named after the first word.
-fn named_place(groups: &[Group], kind: &[u8], text: &[u8]) -> Result<usize, LineKind>
-    ensures { result ≡ meant.named_place groups.now kind.now (words_of text.now) }
-{
-    let Some((_, rest)) = next_word(text) else {
-        return Err(LineKind::MissingWord);
-    };
-    let Some((name, rest)) = next_word(rest) else {
-        return Err(LineKind::MissingWord);
-    };
-    if next_word(rest).is_some() {
-        return Err(LineKind::UnknownWord);
-    }
-    place_for(groups, kind, name)
-}
-
 /// The lines of the group that is named.
 fn inner_lines<'g, 'a>(
     groups: &'g [Group<'a>],
     kind: &[u8],
-    text: &[u8],
+    words: &mut Words,
 ) -> Result<&'g [Line<'a>], LineKind>
     ensures { MatchResult result
-        (λ lines. meant.inner_lines groups.now kind.now (words_of text.now) ≡ Ok lines.now)
-        (λ kind_. meant.inner_lines groups.now kind.now (words_of text.now) ≡ Err kind_) }
+        (λ lines. meant.inner_lines groups.now kind.now words.old ≡ Ok lines.now)
+        (λ fault. meant.inner_lines groups.now kind.now words.old ≡ Err fault) }
 {
-    let place = named_place(groups, kind, text)?;
-    filled_at(groups, place)
-}
-
-/// Puts a line after others.
-fn put_line<'a>(into: &mut Vec<Line<'a>>, line: &Line<'a>) -> Result<(), AllocError>
-    ensures { OnOk result (into.new.items ≡ into.old.items ++ line.now ∷ []) }
-{
-    into.push(line.again())?;
-    Ok(())
+    let name = words.required()?;
+    words.end()?;
+    let place = place_for(groups, kind, name)?;
+    lines_at(groups, place)
 }
 
 /// Puts lines after others.
@@ -100,7 +67,7 @@ fn put_lines<'a>(into: &mut Vec<Line<'a>>, lines: &[Line<'a>]) -> Result<(), All
     ensures { OnOk result (into.new.items ≡ into.old.items ++ lines.now) }
 {
     for line in lines {
-        put_line(into, line)?;
+        into.push(line.again())?;
     }
     Ok(())
 }
@@ -113,19 +80,17 @@ fn put_opened<'a>(
     into: &mut Vec<Line<'a>>,
     line: &Line<'a>,
 ) -> Result<(), CiscoFault>
-    ensures ok { OnOk result
-        (meant.with_opened groups.now kind.now number into.old.items line.now
-        ≡ Ok into.new.items) }
-    ensures err { IfErr result
-        (Fails (meant.with_opened groups.now kind.now number into.old.items line.now)) }
+    ensures { Gives (meant.with_opened groups.now kind.now number into.old.items line.now)
+        (λ none. into.new.items) result }
 {
-    if names_group(line.text()) {
-        match inner_lines(groups, kind, line.text()) {
+    let mut words = line.words();
+    if words.skip(b"group-object") {
+        match inner_lines(groups, kind, &mut words) {
             Ok(lines) => put_lines(into, lines)?,
-            Err(kind) => return Err(line_fault(line.number(), kind)),
+            Err(fault) => return Err(line_fault(line.number(), fault)),
         }
     } else {
-        put_line(into, line)?;
+        into.push(line.again())?;
     }
     if into.len() > MAX_HELD {
         return Err(line_fault(number, LineKind::LargeGroup));
@@ -141,9 +106,8 @@ fn all_opened<'a>(
     number: u32,
     lines: &[Line<'a>],
 ) -> Result<Vec<Line<'a>>, CiscoFault>
-    ensures ok { IfOk result
-        (λ made. meant.all_opened groups.now kind.now number lines.now ≡ Ok made.items) }
-    ensures err { IfErr result (Fails (meant.all_opened groups.now kind.now number lines.now)) }
+    ensures { Gives (meant.all_opened groups.now kind.now number lines.now)
+        (λ made. made.items) result }
 {
     let mut into = Vec::new(alloc);
     for line in lines {
@@ -154,9 +118,9 @@ fn all_opened<'a>(
 
 /// Whether a line names a group.
 fn is_naming(line: &Line) -> bool
-    ensures { result ≡ meant.names_group line.now.words }
+    ensures { result ≡ is_next (codes "group-object") line.now.words }
 {
-    names_group(line.text())
+    line.words().is_next(b"group-object")
 }
 
 /// The place of the first line that names a group.
@@ -183,17 +147,15 @@ fn held<'a>(
     number: u32,
     place: usize,
 ) -> Result<Vec<Line<'a>>, CiscoFault>
-    ensures ok { IfOk result
-        (λ lines. meant.held groups.now kind.now number place ≡ Ok lines.items) }
-    ensures err { IfErr result (Fails (meant.held groups.now kind.now number place)) }
+    ensures { Gives (meant.held groups.now kind.now number place) (λ lines. lines.items) result }
 {
-    match filled_at(groups, place) {
+    match lines_at(groups, place) {
         Ok(lines) => {
             let mut own = Vec::new(alloc);
             put_lines(&mut own, lines)?;
             opened_times(alloc, groups, kind, number, own)
         }
-        Err(kind) => Err(line_fault(number, kind)),
+        Err(fault) => Err(line_fault(number, fault)),
     }
 }
 
@@ -205,12 +167,8 @@ fn opened_times<'a>(
     number: u32,
     lines: Vec<Line<'a>>,
 ) -> Result<Vec<Line<'a>>, CiscoFault>
-    ensures ok { IfOk result (λ made.
-        meant.opened_times meant.max_depth groups.now kind.now number lines.entry.items
-        ≡ Ok made.items) }
-    ensures err { IfErr result
-        (Fails (meant.opened_times meant.max_depth groups.now kind.now number
-        lines.entry.items)) }
+    ensures { Gives (meant.opened_times meant.max_depth groups.now kind.now number lines.entry.items
+        ) (λ made. made.items) result }
 {
     let mut made = lines;
     let mut times = MAX_DEPTH;
@@ -227,24 +185,14 @@ fn opened_times<'a>(
     Ok(made)
 }
 
-/// Puts a span after others.
-fn put_span(into: &mut Vec<Span>, span: Span) -> Result<(), AllocError>
-    ensures { OnOk result (into.new.items ≡ into.old.items ++ span ∷ []) }
-{
-    into.push(span)?;
-    Ok(())
-}
-
 /// Puts the addresses of a member.
 fn put_network(into: &mut Vec<Span>, line: &Line) -> Result<(), CiscoFault>
-    ensures ok { OnOk result
-        (meant.with_member network_of_words into.old.items line.now ≡ Ok into.new.items) }
-    ensures err { IfErr result
-        (Fails (meant.with_member network_of_words into.old.items line.now)) }
+    ensures { Gives (meant.with_member network_of_words into.old.items line.now)
+        (λ none. into.new.items) result }
 {
-    match network_of_words(line.text()) {
+    match network_of_words(&mut line.words()) {
         Ok(span) => {
-            put_span(into, span)?;
+            into.push(span)?;
             Ok(())
         }
         Err(kind) => Err(line_fault(line.number(), kind)),
@@ -253,31 +201,13 @@ fn put_network(into: &mut Vec<Span>, line: &Line) -> Result<(), CiscoFault>
 
 /// The addresses of members.
 fn networks(alloc: Global, lines: &[Line]) -> Result<Vec<Span>, CiscoFault>
-    ensures ok { IfOk result
-        (λ spans. meant.members network_of_words lines.now ≡ Ok spans.items) }
-    ensures err { IfErr result (Fails (meant.members network_of_words lines.now)) }
+    ensures { Gives (meant.members network_of_words lines.now) (λ spans. spans.items) result }
 {
     let mut into = Vec::new(alloc);
     for line in lines {
         put_network(&mut into, line)?;
     }
     Ok(into)
-}
-
-/// The addresses of a group of networks.
-fn group_spans(
-    alloc: Global,
-    groups: &[Group],
-    number: u32,
-    place: usize,
-) -> Result<Vec<Span>, CiscoFault>
-    ensures ok { IfOk result (λ spans.
-        meant.address_spans groups.now number (Addresses.Group place) ≡ Ok spans.items) }
-    ensures err { IfErr result
-        (Fails (meant.address_spans groups.now number (Addresses.Group place))) }
-{
-    let lines = held(alloc, groups, b"network".as_slice(), number, place)?;
-    networks(alloc, &lines)
 }
 
 /// The addresses of an entry's side, which stands in a line. It takes the memory of them.
@@ -287,51 +217,30 @@ pub(crate) fn address_spans(
     number: u32,
     addresses: Addresses,
 ) -> Result<Vec<Span>, CiscoFault>
-    ensures ok { IfOk result
-        (λ spans. meant.address_spans groups.now number addresses ≡ Ok spans.items) }
-    ensures err { IfErr result (Fails (meant.address_spans groups.now number addresses)) }
+    ensures { Gives (meant.address_spans groups.now number addresses)
+        (λ spans. spans.items) result }
 {
     match addresses {
         Addresses::Under(it) => Ok(spans_under(alloc, it)?),
-        Addresses::Group(place) => group_spans(alloc, groups, number, place),
+        Addresses::Group(place) => {
+            let lines = held(alloc, groups, b"network".as_slice(), number, place)?;
+            networks(alloc, &lines)
+        }
     }
-}
-
-/// Puts a service after others.
-fn push_service(into: &mut Vec<Service>, service: Service) -> Result<(), AllocError>
-    ensures { OnOk result (into.new.items ≡ into.old.items ++ service ∷ []) }
-{
-    into.push(service)?;
-    Ok(())
 }
 
 /// Puts the service of a member.
 fn put_service(into: &mut Vec<Service>, line: &Line) -> Result<(), CiscoFault>
-    ensures ok { OnOk result
-        (meant.with_member service_of_words into.old.items line.now ≡ Ok into.new.items) }
-    ensures err { IfErr result
-        (Fails (meant.with_member service_of_words into.old.items line.now)) }
+    ensures { Gives (meant.with_member service_of_words into.old.items line.now)
+        (λ none. into.new.items) result }
 {
-    match service_of_words(line.text()) {
+    match service_of_words(&mut line.words()) {
         Ok(service) => {
-            push_service(into, service)?;
+            into.push(service)?;
             Ok(())
         }
         Err(kind) => Err(line_fault(line.number(), kind)),
     }
-}
-
-/// The services of members.
-fn member_services(alloc: Global, lines: &[Line]) -> Result<Vec<Service>, CiscoFault>
-    ensures ok { IfOk result
-        (λ found. meant.members service_of_words lines.now ≡ Ok found.items) }
-    ensures err { IfErr result (Fails (meant.members service_of_words lines.now)) }
-{
-    let mut into = Vec::new(alloc);
-    for line in lines {
-        put_service(&mut into, line)?;
-    }
-    Ok(into)
 }
 
 /// The services of the group of a place, which an entry in a line names. It takes the memory of
@@ -342,11 +251,20 @@ pub(crate) fn group_services(
     number: u32,
     place: usize,
 ) -> Result<Vec<Service>, CiscoFault>
-    ensures ok { IfOk result (λ found.
-        meant.services_of groups.now number (Services.Group place) ≡ Ok found.items) }
-    ensures err { IfErr result
-        (Fails (meant.services_of groups.now number (Services.Group place))) }
+    ensures { Gives (meant.services_of groups.now number (Services.Group place))
+        (λ found. found.items) result }
 {
     let lines = held(alloc, groups, b"service".as_slice(), number, place)?;
     member_services(alloc, &lines)
+}
+
+/// The services of members.
+fn member_services(alloc: Global, lines: &[Line]) -> Result<Vec<Service>, CiscoFault>
+    ensures { Gives (meant.members service_of_words lines.now) (λ found. found.items) result }
+{
+    let mut into = Vec::new(alloc);
+    for line in lines {
+        put_service(&mut into, line)?;
+    }
+    Ok(into)
 }

@@ -5,23 +5,19 @@
 //!
 //! | module | what it holds |
 //! |---|---|
+//! | `names` | words that are known, numbers, and names of ports and protocols |
+//! | `words` | the words of a line, one after the other |
+//! | `heads` | what a line is in its configuration, and where the next one stands |
 //! | `groups` | groups by their names, with their lines |
-//! | `members` | members of groups of networks |
-//! | `protocols` | protocols of entries and of services |
-//! | `services` | services, and members of groups of them |
-//! | `held` | what groups hold, with the groups in them |
-//! | `names` | numbers, and the words that name ports and protocols |
+//! | `port_list`, `ports` | comparisons of ports |
+//! | `services` | protocols, services, and members of groups of them |
 //! | `wildcard` | addresses under a wildcard mask |
-//! | `port_list` | ports after `eq` and `neq` |
-//! | `ports` | comparisons of ports |
 //! | `entry` | an entry, word by word |
-//! | `packets` | boxes of packets, and the rules of a list |
-//! | `entry_rules` | the rules of an entry, as boxes of packets |
-//! | `heads` | what a line begins or is in its configuration |
-//! | `sequence` | entries by their numbers in the sequence |
-//! | `commands` | words of commands of lists |
+//! | `members` | members of groups of networks |
+//! | `held` | what groups hold, with the groups in them |
 //! | `list` | the list so far, and what each line adds to it |
-//! | `reading` | a configuration, line by line |
+//! | `boxes` | the rules of an entry, as boxes of packets |
+//! | `packets` | a configuration, line by line, and the rules of a list of it |
 //! | `fault` | the kinds of faults, and the line of the first one |
 //! | `laws` | the words of an entry that is read are whole parts |
 //!
@@ -29,9 +25,8 @@
 //! "permit (IP)", "object-group network" and "object-group service".
 #![tactic(auto)]
 
-mod commands;
+mod boxes;
 mod entry;
-mod entry_rules;
 mod fault;
 mod groups;
 mod heads;
@@ -43,12 +38,9 @@ mod names;
 mod packets;
 mod port_list;
 mod ports;
-mod protocols;
-mod reading;
-mod sequence;
 mod services;
 mod wildcard;
+mod words;
 
 pub use fault::{CiscoFault, LineFault, LineKind};
-pub use packets::{Answers, read_list};
-pub use reading::MAX_LIST;
+pub use packets::{Answers, MAX_LIST, read_list};

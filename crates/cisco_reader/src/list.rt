@@ -1,35 +1,37 @@
 //! The list that is asked for, so far, and what each line of a configuration adds to it.
 
-ghost use Rattle.std.specs.Prelude.{◌≡◌};
-ghost use Rattle.cisco_reader.specs.Lists.{after_comment, other_stage, unknown_fault};
+ghost use Rattle.std.specs.Prelude.{◌≡◌, ◌≤◌, length};
+ghost use Rattle.cisco_reader.specs.Lists as meant;
 
-use crate::commands::{act_fault, is_numbered_entry, is_setting, is_unread, is_unread_kind};
 use crate::entry::{Entry, Verdict, entry_of};
 use crate::fault::{LineFault, LineKind, Stop};
 use crate::groups::Group;
-use crate::heads::{
-    Head, after_number, head_of, is_extended, is_standard, may_be_extended, rest_of,
-};
-use crate::sequence::{
-    Loose, Placed, first_number, has_number, loose_after_remark, numbered_after, place_of,
-};
-use std::alloc::{AllocError, Global};
+use crate::heads::{Head, Stage, head_of, is_extended, is_standard, is_unread, named_stage};
+use crate::names::Known;
+use crate::words::Words;
+use std::alloc::Global;
 use std::marker::Model;
-use text_scan::next_word;
 
-/// Where a line stands.
+/// The greatest number in a sequence.
+const MAX_SEQUENCE: u64 = 4_294_967_294;
+
+/// What is known of entries without a number.
 #[derive(Clone, Copy)]
-pub(crate) enum Stage {
-    /// In a part that has no entries of lists.
-    Outside,
-    /// After a command that is a whole entry.
-    Entered,
-    /// In the list that is asked for.
-    Asked,
-    /// In another list of IP.
-    Other,
-    /// In a part whose entries aren't read.
-    Unread,
+pub(crate) enum Loose {
+    /// No remark stands before them.
+    None,
+    /// A remark came, which may have a number.
+    Remark,
+    /// An entry without a number came after it.
+    Entry,
+}
+
+/// An entry at its place.
+#[derive(Drop)]
+pub(crate) struct Placed {
+    pub(crate) sequence: u32,
+    pub(crate) line: u32,
+    pub(crate) entry: Entry,
 }
 
 /// A list so far. Contracts see a record of its parts.
@@ -59,14 +61,14 @@ impl<'g, 'a> Model for List<'g, 'a> {
 }
 
 impl<'g, 'a> List<'g, 'a> {
-    ghost use Rattle.std.specs.Prelude.{◌≡◌, ◌≤◌, length, IfErr, MatchResult, OnOk, Ok, Err};
+    ghost use Rattle.std.specs.Prelude.{◌≡◌, ◌≤◌, length, MatchResult, Ok, Err};
     ghost use Rattle.text_scan.specs.Parts.{words_of};
-    ghost use Rattle.cisco_reader.specs.Stops.{Refuses};
-    ghost use Rattle.cisco_reader.specs.Lists as list;
+    ghost use Rattle.cisco_reader.specs.Lists as meant;
+    ghost use Rattle.cisco_reader.specs.Read.{Becomes};
 
     /// Nothing was read of a file that has these groups.
     pub(crate) fn new(alloc: Global, groups: &'g [Group<'a>]) -> List<'g, 'a>
-        ensures { result ≡ list.no_list groups.now }
+        ensures { result ≡ meant.no_list groups.now }
     {
         List {
             groups,
@@ -79,351 +81,153 @@ impl<'g, 'a> List<'g, 'a> {
     }
 
     /// Puts an entry at a place, where no other has its number.
-    fn insert(&mut self, loose: Loose, placed: Placed, place: usize) -> Result<(), AllocError>
+    fn put(&mut self, loose: Loose, placed: Placed, place: usize) -> Result<(), Stop>
         requires { place ≤ length self.old.entries }
-        ensures { OnOk result (self.new ≡ list.with_inserted self.old loose placed place) }
+        ensures { Becomes (meant.with_place self.old loose placed place) result self.new }
     {
+        if has_number(placed.sequence, &self.entries[place..]) {
+            return Err(LineKind::SequenceTwice.into());
+        }
         self.loose = loose;
         self.last = self.last.max(placed.sequence);
         self.entries.insert(place, placed)?;
         Ok(())
     }
 
-    /// Puts an entry at a place.
-    fn put(&mut self, loose: Loose, placed: Placed, place: usize) -> Result<(), Stop>
-        requires { place ≤ length self.old.entries }
-        ensures ok { OnOk result (list.with_place self.old loose placed place ≡ Ok self.new) }
-        ensures err { IfErr result (Refuses (list.with_place self.old loose placed place)) }
-    {
-        if has_number(placed.sequence, &self.entries[place..]) {
-            return Err(Stop::Faulty(LineKind::SequenceTwice));
-        }
-        self.insert(loose, placed, place)?;
-        Ok(())
-    }
-
     /// An entry of a line, which may have a number.
     fn add_entry(&mut self, line: u32, number: Option<u64>, entry: Entry) -> Result<(), Stop>
-        ensures ok { OnOk result (list.with_entry line number self.old entry ≡ Ok self.new) }
-        ensures err { IfErr result (Refuses (list.with_entry line number self.old entry)) }
+        ensures { Becomes (meant.with_entry line number self.old entry) result self.new }
     {
-        match numbered_after(self.loose, self.last, number) {
-            Ok((loose, sequence)) => {
-                let place = place_of(sequence, &self.entries);
-                let placed = Placed {
-                    sequence,
-                    line,
-                    entry,
-                };
-                self.put(loose, placed, place)
-            }
-            Err(kind) => Err(Stop::Faulty(kind)),
-        }
-    }
-
-    /// An entry of a verdict.
-    fn add_verdict(
-        &mut self,
-        line: u32,
-        number: Option<u64>,
-        verdict: Verdict,
-        text: &[u8],
-    ) -> Result<(), Stop>
-        ensures ok { OnOk result
-            (list.with_verdict line number self.old verdict (words_of text.now) ≡ Ok self.new) }
-        ensures err { IfErr result
-            (Refuses (list.with_verdict line number self.old verdict (words_of text.now))) }
-    {
-        match entry_of(self.groups, verdict, text) {
-            Ok(entry) => self.add_entry(line, number, entry),
-            Err(kind) => Err(Stop::Faulty(kind)),
-        }
-    }
-
-    /// What an entry says after its number.
-    fn add_act(&mut self, line: u32, number: Option<u64>, text: &[u8]) -> Result<(), Stop>
-        ensures ok { OnOk result (list.with_act line number self.old (words_of text.now)
-            ≡ Ok self.new) }
-        ensures err { IfErr result
-            (Refuses (list.with_act line number self.old (words_of text.now))) }
-    {
-        let Some((word, rest)) = next_word(text) else {
-            return Err(Stop::Faulty(LineKind::MissingWord));
+        let loose = loose_after(self.loose, number)?;
+        let sequence = sequence_after(self.last, number)?;
+        let place = place_of(sequence, &self.entries);
+        let placed = Placed {
+            sequence,
+            line,
+            entry,
         };
-        if word == b"permit".as_slice() {
-            return self.add_verdict(line, number, Verdict::Permit, rest);
-        }
-        if word == b"deny".as_slice() {
-            return self.add_verdict(line, number, Verdict::Deny, rest);
+        self.put(loose, placed, place)
+    }
+
+    /// A line of the list.
+    fn add_words(&mut self, line: u32, words: &mut Words) -> Result<(), Stop>
+        ensures { Becomes (meant.with_words line self.old words.old) result self.new }
+    {
+        let number = words.number();
+        let word = words.required()?;
+        if let Some(verdict) = verdict_named(word) {
+            let entry = entry_of(self.groups, verdict, words)?;
+            return self.add_entry(line, number, entry);
         }
         if word == b"remark".as_slice() {
             self.loose = loose_after_remark(self.loose);
             return Ok(());
         }
-        Err(Stop::Faulty(act_fault(word)))
+        Err(act_fault(word).into())
     }
 
-    /// A line of the list.
-    fn add_words(&mut self, line: u32, text: &[u8]) -> Result<(), Stop>
-        ensures ok { OnOk result (list.with_words line self.old (words_of text.now) ≡ Ok self.new) }
-        ensures err { IfErr result (Refuses (list.with_words line self.old (words_of text.now))) }
+    /// The next line stands elsewhere.
+    fn stand(&mut self, stage: Stage) -> Result<(), Stop>
+        ensures { Becomes (Ok (meant.at stage self.old)) result self.new }
     {
-        self.add_act(line, first_number(text), after_number(text))
+        self.stage = stage;
+        Ok(())
     }
 
-    /// An entry of the numbered list that is asked for.
-    fn add_numbered(&mut self, line: u32, name: &[u8], text: &[u8]) -> Result<(), Stop>
-        ensures ok { OnOk result
-            (list.with_numbered line self.old name.now (words_of text.now) ≡ Ok self.new) }
-        ensures err { IfErr result
-            (Refuses (list.with_numbered line self.old name.now (words_of text.now))) }
-    {
-        if !is_extended(name) {
-            return Err(Stop::Faulty(LineKind::NotExtended));
-        }
-        self.stage = Stage::Entered;
-        self.begun = true;
-        self.add_words(line, text)
-    }
-
-    /// An entry of a numbered list.
+    /// An entry of a numbered list, which may be the one that is asked for.
     fn numbered_entry(
         &mut self,
         asked: &[u8],
         line: u32,
         name: &[u8],
-        text: &[u8],
+        words: &mut Words,
     ) -> Result<(), Stop>
-        ensures ok { OnOk result
-            (list.numbered_entry asked.now line self.old name.now (words_of text.now)
-            ≡ Ok self.new) }
-        ensures err { IfErr result
-            (Refuses (list.numbered_entry asked.now line self.old name.now (words_of text.now))) }
+        ensures { Becomes (meant.numbered_entry asked.now line self.old name.now words.old)
+            result self.new }
     {
-        if !is_numbered_entry(text) {
-            return Err(Stop::Faulty(LineKind::BadList));
+        if !words.begins(Known::NumberedEntry) {
+            return Err(LineKind::BadList.into());
         }
-        if name == asked {
-            return self.add_numbered(line, name, text);
+        if !(name == asked) {
+            return self.stand(Stage::Entered);
+        }
+        if !is_extended(name) {
+            return Err(LineKind::NotExtended.into());
         }
         self.stage = Stage::Entered;
-        Ok(())
+        self.begun = true;
+        self.add_words(line, words)
     }
 
     /// What stands after `access-list`.
-    fn numbered(&mut self, asked: &[u8], line: u32, text: &[u8]) -> Result<(), Stop>
-        ensures ok { OnOk result
-            (list.numbered asked.now line self.old (words_of text.now) ≡ Ok self.new) }
-        ensures err { IfErr result
-            (Refuses (list.numbered asked.now line self.old (words_of text.now))) }
+    fn numbered(&mut self, asked: &[u8], line: u32, words: &mut Words) -> Result<(), Stop>
+        ensures { Becomes (meant.numbered asked.now line self.old words.old) result self.new }
     {
-        let Some((name, rest)) = next_word(text) else {
-            return Err(Stop::Faulty(LineKind::BadList));
+        let Some(name) = words.next() else {
+            return Err(LineKind::BadList.into());
         };
         if is_extended(name) || is_standard(name) {
-            return self.numbered_entry(asked, line, name, rest);
+            return self.numbered_entry(asked, line, name, words);
         }
         if is_unread(name) {
-            self.stage = Stage::Entered;
-            return Ok(());
+            return self.stand(Stage::Entered);
         }
-        Err(Stop::Faulty(LineKind::BadList))
+        Err(LineKind::BadList.into())
     }
 
-    /// The extended list of a name begins.
-    fn begin_extended(&mut self, asked: &[u8], name: &[u8]) -> Result<(), LineKind>
-        ensures { MatchResult result
-            (λ _. list.begin_extended asked.now self.old name.now ≡ Ok self.new)
-            (λ kind. list.begin_extended asked.now self.old name.now ≡ Err kind) }
+    /// A command of lists with names, which may begin the one that is asked for.
+    fn named(&mut self, asked: &[u8], words: &mut Words) -> Result<(), Stop>
+        ensures { Becomes (meant.named asked.now self.old words.old) result self.new }
     {
-        if !may_be_extended(name) {
-            return Err(LineKind::BadList);
-        }
-        if name == asked {
-            self.stage = Stage::Asked;
-            self.begun = true;
-            return Ok(());
-        }
-        self.stage = Stage::Other;
-        Ok(())
-    }
-
-    /// A list of a name begins that is of another kind.
-    fn begin_other(&mut self, asked: &[u8], name: &[u8]) -> Result<(), LineKind>
-        ensures { MatchResult result
-            (λ _. list.begin_other asked.now self.old name.now ≡ Ok self.new)
-            (λ kind. list.begin_other asked.now self.old name.now ≡ Err kind) }
-    {
-        if name == asked {
-            return Err(LineKind::NotExtended);
-        }
-        self.stage = Stage::Other;
-        Ok(())
-    }
-
-    /// A word that sets something, and begins no list.
-    fn set(&mut self, word: &[u8]) -> Result<(), LineKind>
-        ensures { MatchResult result
-            (λ _. list.with_setting self.old word.now ≡ Ok self.new)
-            (λ kind. list.with_setting self.old word.now ≡ Err kind) }
-    {
-        if !is_setting(word) {
-            return Err(LineKind::BadList);
-        }
-        self.stage = Stage::Outside;
-        Ok(())
-    }
-
-    /// A list of IP by its kind and its name, or a setting of two words.
-    fn begin_kind(&mut self, asked: &[u8], kind: &[u8], name: &[u8]) -> Result<(), LineKind>
-        ensures { MatchResult result
-            (λ _. list.begin_kind asked.now self.old kind.now name.now ≡ Ok self.new)
-            (λ fault. list.begin_kind asked.now self.old kind.now name.now ≡ Err fault) }
-    {
-        if kind == b"extended".as_slice() {
-            return self.begin_extended(asked, name);
-        }
-        if kind == b"standard".as_slice() {
-            return self.begin_other(asked, name);
-        }
-        if is_unread_kind(kind) {
-            self.stage = Stage::Unread;
-            return Ok(());
-        }
-        self.set(kind)
-    }
-
-    /// What stands after `ip access-list`.
-    fn begin_ip(&mut self, asked: &[u8], text: &[u8]) -> Result<(), LineKind>
-        ensures { MatchResult result
-            (λ _. list.begin_ip asked.now self.old (words_of text.now) ≡ Ok self.new)
-            (λ kind. list.begin_ip asked.now self.old (words_of text.now) ≡ Err kind) }
-    {
-        let Some((kind, rest)) = next_word(text) else {
-            return Err(LineKind::BadList);
-        };
-        let Some((name, rest)) = next_word(rest) else {
-            return self.set(kind);
-        };
-        if next_word(rest).is_some() {
-            return self.set(kind);
-        }
-        self.begin_kind(asked, kind, name)
-    }
-
-    /// What stands after `ipv6 access-list`.
-    fn begin_ip6(&mut self, asked: &[u8], text: &[u8]) -> Result<(), LineKind>
-        ensures { MatchResult result
-            (λ _. list.begin_ip6 asked.now self.old (words_of text.now) ≡ Ok self.new)
-            (λ kind. list.begin_ip6 asked.now self.old (words_of text.now) ≡ Err kind) }
-    {
-        let Some((name, rest)) = next_word(text) else {
-            return Err(LineKind::BadList);
-        };
-        if next_word(rest).is_some() || is_setting(name) {
-            return self.set(name);
-        }
-        self.begin_other(asked, name)
-    }
-
-    /// A command whose second word is `access-list`.
-    fn named(&mut self, asked: &[u8], text: &[u8]) -> Result<(), LineKind>
-        ensures { MatchResult result
-            (λ _. list.named asked.now self.old (words_of text.now) ≡ Ok self.new)
-            (λ kind. list.named asked.now self.old (words_of text.now) ≡ Err kind) }
-    {
-        let Some((first, rest)) = next_word(text) else {
-            return Err(LineKind::BadList);
-        };
-        if first == b"ip".as_slice() {
-            return self.begin_ip(asked, rest_of(rest));
-        }
-        if first == b"ipv6".as_slice() {
-            return self.begin_ip6(asked, rest_of(rest));
-        }
-        self.stage = other_stage(first);
+        self.stage = named_stage(asked, words)?;
+        self.begun = self.begun || self.stage.is_asked();
         Ok(())
     }
 
     /// An entry, by where it stands.
-    fn add_stray(&mut self, line: u32, text: &[u8]) -> Result<(), Stop>
-        ensures ok { OnOk result
-            (list.with_stray line self.old (words_of text.now) self.old.stage ≡ Ok self.new) }
-        ensures err { IfErr result
-            (Refuses (list.with_stray line self.old (words_of text.now) self.old.stage)) }
+    fn add_stray(&mut self, line: u32, words: &mut Words) -> Result<(), Stop>
+        ensures { Becomes (meant.with_stray line self.old words.old self.old.stage)
+            result self.new }
     {
         match self.stage {
-            Stage::Outside | Stage::Entered => Err(Stop::Faulty(LineKind::StrayEntry)),
-            Stage::Asked => self.add_words(line, text),
+            Stage::Outside | Stage::Entered => Err(LineKind::StrayEntry.into()),
+            Stage::Asked => self.add_words(line, words),
             Stage::Other | Stage::Unread => Ok(()),
-        }
-    }
-
-    /// A command whose second word is `access-list`, or why it isn't read.
-    fn add_named(&mut self, asked: &[u8], text: &[u8]) -> Result<(), Stop>
-        ensures ok { OnOk result (list.named asked.now self.old (words_of text.now) ≡ Ok self.new) }
-        ensures err { IfErr result (Refuses (list.named asked.now self.old (words_of text.now))) }
-    {
-        match self.named(asked, text) {
-            Ok(()) => Ok(()),
-            Err(kind) => Err(Stop::Faulty(kind)),
-        }
-    }
-
-    /// A line with blanks before it that is no entry.
-    fn add_inside(&mut self) -> Result<(), Stop>
-        ensures ok { OnOk result (list.with_inside self.old self.old.stage ≡ Ok self.new) }
-        ensures err { IfErr result (Refuses (list.with_inside self.old self.old.stage)) }
-    {
-        match self.stage {
-            Stage::Outside | Stage::Unread => Ok(()),
-            Stage::Entered => Err(Stop::Faulty(LineKind::Wrapped)),
-            Stage::Asked | Stage::Other => Err(Stop::Faulty(LineKind::NoEntry)),
-        }
-    }
-
-    /// A line, by what it is.
-    fn add_head(&mut self, asked: &[u8], line: u32, text: &[u8], head: Head) -> Result<(), Stop>
-        ensures ok { OnOk result
-            (list.with_head asked.now line self.old (words_of text.now) head ≡ Ok self.new) }
-        ensures err { IfErr result
-            (Refuses (list.with_head asked.now line self.old (words_of text.now) head)) }
-    {
-        match head {
-            Head::Skipped => {
-                self.stage = after_comment(self.stage);
-                Ok(())
-            }
-            Head::Numbered => self.numbered(asked, line, rest_of(text)),
-            Head::Named => self.add_named(asked, text),
-            Head::Group => {
-                self.stage = Stage::Unread;
-                Ok(())
-            }
-            Head::TakenOut => Err(Stop::Faulty(LineKind::TakenOut)),
-            Head::Entry => self.add_stray(line, text),
-            Head::End | Head::Part => {
-                self.stage = Stage::Outside;
-                Ok(())
-            }
-            Head::Inside => self.add_inside(),
-            Head::Unknown => Err(Stop::Faulty(unknown_fault(self.stage))),
         }
     }
 
     /// A line of a number, from 1.
     pub(crate) fn add_line(&mut self, asked: &[u8], line: u32, text: &[u8]) -> Result<(), Stop>
-        ensures ok { OnOk result (list.with_line asked.now line self.old text.now ≡ Ok self.new) }
-        ensures err { IfErr result (Refuses (list.with_line asked.now line self.old text.now)) }
+        ensures { Becomes (meant.with_line asked.now line self.old text.now) result self.new }
     {
-        self.add_head(asked, line, text, head_of(text))
+        let mut words = Words::of(text);
+        match head_of(text) {
+            Head::Skipped => self.stand(self.stage.after_comment()),
+            Head::Numbered => {
+                words.next();
+                self.numbered(asked, line, &mut words)
+            }
+            Head::Named => self.named(asked, &mut words),
+            Head::Group => self.stand(Stage::Unread),
+            Head::TakenOut => Err(LineKind::TakenOut.into()),
+            Head::Entry => self.add_stray(line, &mut words),
+            Head::Part => self.stand(Stage::Outside),
+            Head::Inside => match self.stage.list_fault() {
+                Some(kind) => Err(kind.into()),
+                None => Ok(()),
+            },
+            Head::Unknown => match self.stage.list_fault() {
+                Some(kind) => Err(kind.into()),
+                None => Err(LineKind::UnknownLine.into()),
+            },
+        }
     }
 
     /// The entries, where the list was begun and has some. The last line has the number.
     pub(crate) fn ended(self, number: u32) -> Result<Vec<Placed>, LineFault>
         ensures { MatchResult result
-            (λ entries. list.ended number self.entry ≡ Ok entries.items)
-            (λ fault. list.ended number self.entry ≡ Err fault) }
+            (λ entries. meant.ended number self.entry ≡ Ok entries.items)
+            (λ fault. meant.ended number self.entry ≡ Err fault) }
     {
         if !self.begun {
             return Err(LineFault {
@@ -441,36 +245,89 @@ impl<'g, 'a> List<'g, 'a> {
     }
 }
 
-/// Where the line after a command of lists of another protocol stands.
-fn other_stage(first: &[u8]) -> Stage
-    ensures { result ≡ other_stage first.now }
+/// What a word says that begins an entry.
+fn verdict_named(word: &[u8]) -> Option<Verdict>
+    ensures { result ≡ meant.verdict_named word.now }
 {
-    if first == b"hardware".as_slice() {
-        Stage::Outside
+    if word == b"permit".as_slice() {
+        Some(Verdict::Permit)
+    } else if word == b"deny".as_slice() {
+        Some(Verdict::Deny)
     } else {
-        Stage::Unread
+        None
     }
 }
 
-/// Where the line after a comment stands.
-fn after_comment(stage: Stage) -> Stage
-    ensures { result ≡ after_comment stage }
+/// Why an entry isn't read that neither permits nor denies.
+fn act_fault(word: &[u8]) -> LineKind
+    ensures { result ≡ meant.act_fault word.now }
 {
-    match stage {
-        Stage::Outside | Stage::Entered => Stage::Outside,
-        Stage::Asked => Stage::Asked,
-        Stage::Other => Stage::Other,
-        Stage::Unread => Stage::Unread,
+    if Known::Compared.has(word) {
+        LineKind::Compares
+    } else {
+        LineKind::UnknownWord
     }
 }
 
-/// The fault of a line that begins nothing that is known.
-fn unknown_fault(stage: Stage) -> LineKind
-    ensures { result ≡ unknown_fault stage }
+/// What is known of entries without a number after a remark.
+fn loose_after_remark(loose: Loose) -> Loose
+    ensures { result ≡ meant.loose_after_remark loose }
 {
-    match stage {
-        Stage::Outside | Stage::Unread => LineKind::UnknownLine,
-        Stage::Entered => LineKind::Wrapped,
-        Stage::Asked | Stage::Other => LineKind::NoEntry,
+    match loose {
+        Loose::None | Loose::Remark => Loose::Remark,
+        Loose::Entry => Loose::Entry,
+    }
+}
+
+/// And after an entry with a number or without.
+fn loose_after(loose: Loose, number: Option<u64>) -> Result<Loose, LineKind>
+    ensures { result ≡ meant.loose_after loose number }
+{
+    match (loose, number) {
+        (Loose::None, _) => Ok(Loose::None),
+        (Loose::Remark, Some(_)) => Ok(Loose::Remark),
+        (Loose::Remark, None) | (Loose::Entry, None) => Ok(Loose::Entry),
+        (Loose::Entry, Some(_)) => Err(LineKind::LooseEntry),
+    }
+}
+
+/// A number of a sequence, which may be so great.
+fn checked_sequence(number: u64) -> Result<u32, LineKind>
+    ensures { result ≡ meant.checked_sequence number }
+{
+    if 1 <= number && number <= MAX_SEQUENCE {
+        return Ok(number as u32);
+    }
+    Err(LineKind::BadSequence)
+}
+
+/// The number of an entry: ten after the greatest so far, where it has none.
+fn sequence_after(last: u32, number: Option<u64>) -> Result<u32, LineKind>
+    ensures { result ≡ meant.sequence_after last number }
+{
+    match number {
+        Some(number) => checked_sequence(number),
+        None => checked_sequence(u64::from(last) + 10),
+    }
+}
+
+/// The place of an entry by its number: after all that have lower ones.
+fn place_of(sequence: u32, entries: &[Placed]) -> usize
+    ensures place { result ≡ meant.place_of sequence entries.now }
+    ensures within { result ≤ length entries.now }
+{
+    entries
+        .iter()
+        .take_while(|it| it.sequence < sequence)
+        .count()
+}
+
+/// Whether the first of some entries has the number.
+fn has_number(sequence: u32, entries: &[Placed]) -> bool
+    ensures { result ≡ meant.has_number sequence entries.now }
+{
+    match entries {
+        [first, ..] => first.sequence == sequence,
+        [] => false,
     }
 }

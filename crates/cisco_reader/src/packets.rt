@@ -1,18 +1,22 @@
-//! The rules of entries, as boxes of packets.
+//! A configuration of IOS → the rules of one of its lists.
 
-ghost use Rattle.std.specs.Prelude.{◌≡◌, ◌⊎◌, ◌++◌, length, map, nat_lt, IfErr, IfOk, OnOk, Ok, Err};
-ghost use Rattle.cisco_reader.specs.Packets.{all_packets, from, from_ports, kept_ports, left_out, left_ports};
-ghost use Rattle.cisco_reader.specs.Packets.{list_of, max_list, of_protocol, spans_of, to, to_ports, wanted};
-ghost use Rattle.cisco_reader.specs.Stops.{Fails};
+ghost use Rattle.std.specs.Prelude.{◌≡◌, ◌≤◌, ◌⊎◌, length, nat_lt, IfOk, Ok, Err};
+ghost use Rattle.cisco_reader.specs.Groups.{groups_of};
+ghost use Rattle.cisco_reader.specs.Lists.{entries_of};
+ghost use Rattle.cisco_reader.specs.Packets.{list_of, max_list};
+ghost use Rattle.cisco_reader.specs.Read.{Gives};
 ghost use Rattle.cisco_reader.specs.declared.fault.LineFault.{LineFault};
 
-use crate::entry_rules::all_rules;
+use crate::boxes::all_rules;
 use crate::fault::{CiscoFault, LineKind, line_fault};
-use crate::ports::PortPart;
-use crate::reading::{MAX_LIST, read_entries, read_groups};
-use crate::services::Service;
-use list_chains::{Chain, ChainRule, Span, SpanBox};
-use std::alloc::{AllocError, Global};
+use crate::groups::{Group, Groups};
+use crate::list::{List, Placed};
+use list_chains::{Chain, ChainRule};
+use std::alloc::Global;
+use text_scan::split_line;
+
+/// How many bytes a configuration may have.
+pub const MAX_LIST: usize = 16_777_216;
 
 /// What the answer of a rule is.
 #[derive(Clone, Copy)]
@@ -23,185 +27,49 @@ pub enum Answers {
     Verdict,
 }
 
-/// A box of packets: for each part of their keys the numbers from one to another.
-#[derive(Clone, Copy)]
-pub(crate) struct Packets {
-    pub(crate) protocol: Span,
-    pub(crate) source: Span,
-    pub(crate) destination: Span,
-    pub(crate) source_ports: Span,
-    pub(crate) destination_ports: Span,
-}
-
-/// All numbers of a protocol, of an address and of a port.
-const ANY_PROTOCOL: Span = Span { low: 0, high: 255 };
-
-const ANY_ADDRESS: Span = Span {
-    low: 0,
-    high: 4_294_967_295,
-};
-
-const ANY_PORT: Span = Span {
-    low: 0,
-    high: 65_535,
-};
-
-/// All packets.
-const ALL_PACKETS: Packets = Packets {
-    protocol: ANY_PROTOCOL,
-    source: ANY_ADDRESS,
-    destination: ANY_ADDRESS,
-    source_ports: ANY_PORT,
-    destination_ports: ANY_PORT,
-};
-
-/// The packets of some protocols.
-pub(crate) fn of_protocol(span: Span) -> Packets
-    ensures { result ≡ of_protocol span }
+/// The groups of a configuration, or the first fault of them. It takes memory for their lines.
+fn read_groups(alloc: Global, bytes: &[u8]) -> Result<Vec<Group<'_>>, CiscoFault>
+    requires { length bytes.now ≤ 16777216 }
+    ensures { Gives (groups_of bytes.now) (λ groups. groups.items) result }
 {
-    Packets {
-        protocol: span,
-        ..ALL_PACKETS
-    }
-}
-
-/// Packets with such source ports.
-pub(crate) fn from_ports(packets: Packets, span: Span) -> Packets
-    ensures { result ≡ from_ports packets span }
-{
-    Packets {
-        source_ports: span,
-        ..packets
-    }
-}
-
-/// Packets with such destination ports.
-pub(crate) fn to_ports(packets: Packets, span: Span) -> Packets
-    ensures { result ≡ to_ports packets span }
-{
-    Packets {
-        destination_ports: span,
-        ..packets
-    }
-}
-
-/// Packets with such sources.
-pub(crate) fn from(packets: Packets, span: Span) -> Packets
-    ensures { result ≡ from packets span }
-{
-    Packets {
-        source: span,
-        ..packets
-    }
-}
-
-/// Packets with such destinations.
-pub(crate) fn to(packets: Packets, span: Span) -> Packets
-    ensures { result ≡ to packets span }
-{
-    Packets {
-        destination: span,
-        ..packets
-    }
-}
-
-/// The ports that a comparison wants: all but those after `neq`, where it is one.
-pub(crate) fn kept_ports(alloc: Global, part: &Option<PortPart>) -> Result<Vec<Span>, AllocError>
-    ensures { IfOk result (λ spans. spans.items ≡ kept_ports part.now) }
-{
-    let mut spans = Vec::new(alloc);
-    match part {
-        Some(part) => put_wanted(&mut spans, part)?,
-        None => spans.push(ANY_PORT)?,
-    }
-    Ok(spans)
-}
-
-/// Puts the ports that a comparison wants.
-fn put_wanted(into: &mut Vec<Span>, part: &PortPart) -> Result<(), AllocError>
-    ensures { OnOk result (into.new.items ≡ into.old.items ++ wanted part.now) }
-{
-    if part.negated {
-        into.push(ANY_PORT)?;
-        return Ok(());
-    }
-    into.extend_from_slice(part.ports.spans())?;
-    Ok(())
-}
-
-/// The ports that a comparison leaves out.
-fn left_ports(part: &Option<PortPart>) -> &[Span]
-    ensures { result.now ≡ left_ports part.now }
-{
-    match part {
-        Some(part) => {
-            if part.negated {
-                part.ports.spans()
-            } else {
-                &[]
-            }
+    let mut groups = Groups::new(alloc);
+    let mut left = bytes;
+    let mut number = 0;
+    while let Some((line, rest)) = split_line(left) {
+        number += 1;
+        match groups.add_line(number, line) {
+            Ok(()) => left = rest,
+            Err(stop) => return Err(stop.at(number)),
         }
-        None => &[],
     }
+    Ok(groups.into_groups())
 }
 
-/// The packets that a service leaves out of its own.
-pub(crate) fn left_out(alloc: Global, service: &Service) -> Result<Vec<Packets>, AllocError>
-    ensures { IfOk result (λ left. left.items ≡ left_out service.now) }
+/// The entries of the list of a name in a configuration that has these groups, or its first faulty
+/// line. It takes memory for the entries.
+fn read_entries(
+    alloc: Global,
+    groups: &[Group],
+    bytes: &[u8],
+    asked: &[u8],
+) -> Result<Vec<Placed>, CiscoFault>
+    requires { length bytes.now ≤ 16777216 }
+    ensures { Gives (entries_of groups.now asked.now bytes.now) (λ entries. entries.items) result }
 {
-    let mut left = Vec::new(alloc);
-    put_left_from(&mut left, left_ports(&service.source))?;
-    put_left_to(&mut left, left_ports(&service.destination))?;
-    Ok(left)
-}
-
-/// Puts the packets with some source ports.
-fn put_left_from(into: &mut Vec<Packets>, ports: &[Span]) -> Result<(), AllocError>
-    ensures { OnOk result (into.new.items
-        ≡ into.old.items ++ map (from_ports all_packets) ports.now) }
-{
-    for span in ports {
-        into.push(from_ports(ALL_PACKETS, *span))?;
+    let mut list = List::new(alloc, groups);
+    let mut left = bytes;
+    let mut number = 0;
+    while let Some((line, rest)) = split_line(left) {
+        number += 1;
+        match list.add_line(asked, number, line) {
+            Ok(()) => left = rest,
+            Err(stop) => return Err(stop.at(number)),
+        }
     }
-    Ok(())
-}
-
-/// Puts the packets with some destination ports.
-fn put_left_to(into: &mut Vec<Packets>, ports: &[Span]) -> Result<(), AllocError>
-    ensures { OnOk result (into.new.items
-        ≡ into.old.items ++ map (to_ports all_packets) ports.now) }
-{
-    for span in ports {
-        into.push(to_ports(ALL_PACKETS, *span))?;
+    match list.ended(number) {
+        Ok(entries) => Ok(entries),
+        Err(fault) => Err(CiscoFault::Line(fault)),
     }
-    Ok(())
-}
-
-/// The box of some packets, over the fields of IPv4's layout.
-pub(crate) fn box_of(alloc: Global, packets: Packets) -> Result<SpanBox, AllocError>
-    ensures { IfOk result (λ made. made ≡ spans_of packets) }
-{
-    SpanBox::of(
-        alloc,
-        &[
-            packets.protocol,
-            packets.source,
-            packets.destination,
-            packets.source_ports,
-            packets.destination_ports,
-        ],
-    )
-}
-
-/// The boxes of some packets.
-pub(crate) fn boxes_of(alloc: Global, all: &[Packets]) -> Result<Vec<SpanBox>, AllocError>
-    ensures { IfOk result (λ boxes. boxes.items ≡ map spans_of all.now) }
-{
-    let mut boxes = Vec::new(alloc);
-    for packets in all {
-        boxes.push(box_of(alloc, *packets)?)?;
-    }
-    Ok(boxes)
 }
 
 /// Whether a configuration has more bytes than it may have.
@@ -218,8 +86,7 @@ fn list_rules(
     name: &[u8],
     answers: Answers,
 ) -> Result<Vec<ChainRule>, CiscoFault>
-    ensures ok { IfOk result (λ rules. list_of answers name.now bytes.now ≡ Ok rules.items) }
-    ensures err { IfErr result (Fails (list_of answers name.now bytes.now)) }
+    ensures { Gives (list_of answers name.now bytes.now) (λ rules. rules.items) result }
 {
     if is_too_long(bytes) {
         return Err(line_fault(0, LineKind::FileTooLong));
@@ -232,7 +99,7 @@ fn list_rules(
 /// The rules of the extended list of a name in a configuration of IOS, or its first faulty line.
 ///
 /// `bytes` holds the whole configuration as `show running-config` writes it, at most
-/// [`MAX_LIST`](crate::MAX_LIST) bytes. Lines end at LF or CR LF, and the last one may lack it. The
+/// [`MAX_LIST`] bytes. Lines end at LF or CR LF, and the last one may lack it. The
 /// list is numbered (`access-list 101 permit ..`) or named (`ip access-list extended NAME`), and
 /// its entries are ordered by their sequence numbers. A packet that none of them catches is denied:
 /// no rule says so, and its answer is 0.

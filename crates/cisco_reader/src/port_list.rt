@@ -1,16 +1,12 @@
-//! Ports, as they stand after `eq` and `neq`.
+//! Spans of ports, as they are compared.
 
 use crate::fault::LineKind;
-use crate::names::port;
+use crate::names::MAX_PORT;
 use list_chains::Span;
 use std::marker::Model;
-use text_scan::next_word;
 
 /// How many ports may stand after `eq` and `neq`.
 pub(crate) const MAX_PORTS: usize = 10;
-
-/// What stands where there is room for more.
-const UNUSED: Span = Span { low: 0, high: 0 };
 
 /// Some spans of ports. Contracts see the list.
 #[derive(Drop)]
@@ -32,27 +28,48 @@ impl Model for Ports {
 }
 
 impl Ports {
-    ghost use Rattle.std.specs.Prelude.{◌≡◌, [], ◌∷◌, ◌++◌, ◌<◌, nat_le, length, MatchResult, Ok, Err};
-    ghost use Rattle.text_scan.specs.Parts.{words_of};
-    ghost use Rattle.cisco_reader.specs.PortList.{ended, listed, max_ports};
+    ghost use Rattle.std.specs.Prelude.{◌≡◌, ◌≤◌, ◌<◌, ℕ, List, [], ◌∷◌, ◌++◌, nat_le, length};
+    ghost use Rattle.cisco_reader.specs.PortList.{ended, max_ports, ports_above, ports_below, ports_between};
+    ghost use Rattle.cisco_reader.specs.Read.{Reads};
 
     /// No ports.
-    pub(crate) fn new() -> Ports
+    pub(crate) fn none() -> Ports
         ensures { result ≡ [] }
     {
         Ports {
-            spans: [UNUSED; MAX_PORTS],
+            spans: [Span { low: 0, high: 0 }; MAX_PORTS],
             count: 0,
         }
     }
 
     /// Ports from one to another.
-    pub(crate) fn one(low: u64, high: u64) -> Ports
-        ensures { result ≡ record { low = low; high = high } ∷ [] }
+    pub(crate) fn between(low: u64, high: u64) -> Ports
+        ensures { result ≡ ports_between low high }
     {
-        let mut ports = Ports::new();
+        let mut ports = Ports::none();
         ports.push(Span { low, high });
         ports
+    }
+
+    /// The ports above one.
+    pub(crate) fn above(port: u64) -> Ports
+        requires { port ≤ 65535 }
+        ensures { result ≡ ports_above port }
+    {
+        if port == MAX_PORT {
+            return Ports::none();
+        }
+        Ports::between(port + 1, MAX_PORT)
+    }
+
+    /// The ports below one.
+    pub(crate) fn below(port: u64) -> Ports
+        ensures { result ≡ ports_below port }
+    {
+        if port == 0 {
+            return Ports::none();
+        }
+        Ports::between(0, port - 1)
     }
 
     /// The spans, in the order of the words.
@@ -63,14 +80,14 @@ impl Ports {
     }
 
     /// Whether there is no room for one more.
-    fn is_full(&self) -> bool
+    pub(crate) fn is_full(&self) -> bool
         ensures { result ≡ nat_le max_ports (length self.now) }
     {
         self.spans().len() >= MAX_PORTS
     }
 
     /// Puts a span after the others.
-    fn push(&mut self, span: Span)
+    pub(crate) fn push(&mut self, span: Span)
         requires { length self.old < max_ports }
         ensures { self.new ≡ self.old ++ span ∷ [] }
     {
@@ -78,41 +95,13 @@ impl Ports {
         self.count += 1;
     }
 
-    /// The ports up to the first word that is none, at least one, and the text from that word on.
-    pub(crate) fn listed(text: &[u8]) -> Result<(Ports, &[u8]), LineKind>
-        ensures { MatchResult result
-            (λ read. listed [] (words_of text.now)
-            ≡ Ok (record { value = read.0; words = words_of read.1.now }))
-            (λ kind. listed [] (words_of text.now) ≡ Err kind) }
-    {
-        let mut ports = Ports::new();
-        let mut left = text;
-        while let Some((word, rest)) = next_word(left) {
-            let Some(number) = port(word) else {
-                return ports.ended(left);
-            };
-            if ports.is_full() {
-                return Err(LineKind::ManyPorts);
-            }
-            ports.push(Span {
-                low: number,
-                high: number,
-            });
-            left = rest;
-        }
-        ports.ended(left)
-    }
-
-    /// The ports, if there are any, before a text that begins with none.
-    fn ended(self, text: &[u8]) -> Result<(Ports, &[u8]), LineKind>
-        ensures { MatchResult result
-            (λ read. ended self (words_of text.now)
-            ≡ Ok (record { value = read.0; words = words_of read.1.now }))
-            (λ kind. ended self (words_of text.now) ≡ Err kind) }
+    /// The ports, if there are any. The words after them stay.
+    pub(crate) fn ended(self) -> Result<Ports, LineKind>
+        ensures { (words : List (List ℕ)) → Reads (ended self words) result words }
     {
         if self.spans().is_empty() {
             return Err(LineKind::BadPort);
         }
-        Ok((self, text))
+        Ok(self)
     }
 }

@@ -1,17 +1,34 @@
 //! Services: protocols with their ports, as entries and members of groups of services name them.
 
-ghost use Rattle.std.specs.Prelude.{◌≡◌, MatchResult, Ok, Err};
-ghost use Rattle.text_scan.specs.Parts.{words_of};
-ghost use Rattle.cisco_reader.specs.Services.{are_compared, are_typed, destination_ports, member_protocols};
-ghost use Rattle.cisco_reader.specs.Services.{or_alone, service_member, service_of, service_of_words};
-ghost use Rattle.cisco_reader.specs.Services.{service_ports, some_ports, source_ports};
+ghost use Rattle.std.specs.Prelude.{◌≡◌};
+ghost use Rattle.cisco_reader.specs.Read.{Reads};
+ghost use Rattle.cisco_reader.specs.Services as meant;
 
 use crate::fault::LineKind;
-use crate::names::port;
+use crate::names::{MAX_PROTOCOL, port, protocol_number};
 use crate::port_list::Ports;
-use crate::ports::{Operator, PortPart, operator_named, with_one};
-use crate::protocols::{Protocols, have_ports, have_types, protocols_of};
-use text_scan::next_word;
+use crate::ports::{PortPart, operator_named, with_operator};
+use crate::words::Words;
+use list_chains::Span;
+use std::slice;
+
+/// All protocols.
+pub(crate) const ANY_PROTOCOL: Span = Span {
+    low: 0,
+    high: MAX_PROTOCOL,
+};
+
+/// The protocols of `tcp-udp`.
+const TCP_UDP: [Span; 2] = [Span { low: 6, high: 6 }, Span { low: 17, high: 17 }];
+
+/// The protocols of a service.
+#[derive(Clone, Copy)]
+pub(crate) enum Protocols {
+    /// Those from one number to another.
+    Between(Span),
+    /// TCP and UDP.
+    TcpUdp,
+}
 
 /// Protocols, and the ports of the source and of the destination where any are compared.
 #[derive(Drop)]
@@ -21,9 +38,82 @@ pub(crate) struct Service {
     pub(crate) destination: Option<PortPart>,
 }
 
+/// The protocols that a word stands for.
+pub(crate) fn protocols_of(word: &[u8]) -> Result<Span, LineKind>
+    ensures { result ≡ meant.protocols_of word.now }
+{
+    if word == b"ip".as_slice() {
+        return Ok(ANY_PROTOCOL);
+    }
+    let number = protocol_number(word).ok_or(LineKind::BadProtocol)?;
+    if number == 0 {
+        return Err(LineKind::ZeroProtocol);
+    }
+    Ok(Span {
+        low: number,
+        high: number,
+    })
+}
+
+/// Whether some protocols are the one of this number alone.
+fn is_one(number: u64, span: Span) -> bool
+    ensures { result ≡ meant.is_one number span }
+{
+    span.low == number && span.high == number
+}
+
+/// Whether a protocol has types of messages: ICMP of IPv4 or of IPv6.
+pub(crate) fn has_types(span: Span) -> bool
+    ensures { result ≡ meant.has_types span }
+{
+    is_one(1, span) || is_one(58, span)
+}
+
+/// Whether a protocol has ports that keys have: TCP, UDP or SCTP.
+fn has_ports(span: Span) -> bool
+    ensures { result ≡ meant.has_ports span }
+{
+    is_one(6, span) || is_one(17, span) || is_one(132, span)
+}
+
+impl Protocols {
+    ghost use Rattle.std.specs.Prelude.{◌≡◌};
+    ghost use Rattle.cisco_reader.specs.Services as meant;
+
+    /// The numbers of the protocols.
+    pub(crate) fn spans(&self) -> &[Span]
+        ensures { result.now ≡ meant.protocol_spans self.now }
+    {
+        match self {
+            Protocols::Between(span) => slice::from_ref(span),
+            Protocols::TcpUdp => &TCP_UDP,
+        }
+    }
+
+    /// Whether they have types of messages.
+    fn have_types(self) -> bool
+        ensures { result ≡ meant.have_types self }
+    {
+        match self {
+            Protocols::Between(span) => has_types(span),
+            Protocols::TcpUdp => false,
+        }
+    }
+
+    /// Whether they have ports.
+    fn have_ports(self) -> bool
+        ensures { result ≡ meant.have_ports self }
+    {
+        match self {
+            Protocols::Between(span) => has_ports(span),
+            Protocols::TcpUdp => true,
+        }
+    }
+}
+
 /// Whether ports are compared on a side.
 pub(crate) fn are_compared(source: &Option<PortPart>, destination: &Option<PortPart>) -> bool
-    ensures { result ≡ are_compared source.now destination.now }
+    ensures { result ≡ meant.are_compared source.now destination.now }
 {
     source.is_some() || destination.is_some()
 }
@@ -34,9 +124,9 @@ pub(crate) fn service_of(
     source: Option<PortPart>,
     destination: Option<PortPart>,
 ) -> Result<Service, LineKind>
-    ensures { result ≡ service_of protocols source destination }
+    ensures { result ≡ meant.service_of protocols source destination }
 {
-    if are_compared(&source, &destination) && !have_ports(protocols) {
+    if are_compared(&source, &destination) && !protocols.have_ports() {
         return Err(LineKind::NeedsProtocol);
     }
     Ok(Service {
@@ -46,132 +136,62 @@ pub(crate) fn service_of(
     })
 }
 
-/// Ports with the comparison that a word names, or the port that it is, and the text after them.
-fn or_alone<'a>(
-    word: &[u8],
-    text: &'a [u8],
-    operator: Option<Operator>,
-) -> Result<(Option<PortPart>, &'a [u8]), LineKind>
-    ensures { MatchResult result
-        (λ read. or_alone word.now (words_of text.now) operator
-        ≡ Ok (record { value = read.0; words = words_of read.1.now }))
-        (λ kind. or_alone word.now (words_of text.now) operator ≡ Err kind) }
+/// Ports that have to stand there: a comparison, or one port alone.
+fn some_ports(words: &mut Words) -> Result<Option<PortPart>, LineKind>
+    ensures { Reads (meant.some_ports words.old) result words.new }
 {
-    if let Some(operator) = operator {
-        return with_one(operator, text);
+    let word = words.required()?;
+    if let Some(operator) = operator_named(word) {
+        return with_operator(true, operator, words);
     }
-    match port(word) {
-        Some(number) => Ok((
-            Some(PortPart {
-                negated: false,
-                ports: Ports::one(number, number),
-            }),
-            text,
-        )),
-        None => Err(LineKind::BadPort),
-    }
+    let number = port(word).ok_or(LineKind::BadPort)?;
+    Ok(Some(PortPart {
+        negated: false,
+        ports: Ports::between(number, number),
+    }))
 }
 
-/// Ports that have to stand there, and the text after them.
-fn some_ports(text: &[u8]) -> Result<(Option<PortPart>, &[u8]), LineKind>
-    ensures { MatchResult result
-        (λ read. some_ports (words_of text.now)
-        ≡ Ok (record { value = read.0; words = words_of read.1.now }))
-        (λ kind. some_ports (words_of text.now) ≡ Err kind) }
+/// The ports of the source, which stand after `source`.
+fn source_ports(words: &mut Words) -> Result<Option<PortPart>, LineKind>
+    ensures { Reads (meant.source_ports words.old) result words.new }
 {
-    let Some((word, rest)) = next_word(text) else {
-        return Err(LineKind::MissingWord);
-    };
-    or_alone(word, rest, operator_named(word))
-}
-
-/// The ports of the source, which stand after `source`, and the text after them.
-fn source_ports(text: &[u8]) -> Result<(Option<PortPart>, &[u8]), LineKind>
-    ensures { MatchResult result
-        (λ read. source_ports (words_of text.now)
-        ≡ Ok (record { value = read.0; words = words_of read.1.now }))
-        (λ kind. source_ports (words_of text.now) ≡ Err kind) }
-{
-    let Some((word, rest)) = next_word(text) else {
-        return Ok((None, text));
-    };
-    if word == b"source".as_slice() {
-        return some_ports(rest);
+    if words.skip(b"source") {
+        return some_ports(words);
     }
-    Ok((None, text))
+    Ok(None)
 }
 
 /// The ports of the destination, after which no word stands.
-fn destination_ports(text: &[u8]) -> Result<Option<PortPart>, LineKind>
-    ensures { result ≡ destination_ports (words_of text.now) }
+fn destination_ports(words: &mut Words) -> Result<Option<PortPart>, LineKind>
+    ensures { result ≡ meant.destination_ports words.old }
 {
-    if next_word(text).is_none() {
+    if words.is_empty() {
         return Ok(None);
     }
-    match some_ports(text) {
-        Ok((ports, rest)) => {
-            if next_word(rest).is_some() {
-                return Err(LineKind::UnknownWord);
-            }
-            Ok(ports)
-        }
-        Err(kind) => Err(kind),
-    }
-}
-
-/// The service of some protocols and the ports that stand after them.
-fn service_ports(protocols: Protocols, text: &[u8]) -> Result<Service, LineKind>
-    ensures { result ≡ service_ports protocols (words_of text.now) }
-{
-    match source_ports(text) {
-        Ok((source, rest)) => match destination_ports(rest) {
-            Ok(destination) => service_of(protocols, source, destination),
-            Err(kind) => Err(kind),
-        },
-        Err(kind) => Err(kind),
-    }
+    let ports = some_ports(words)?;
+    words.end()?;
+    Ok(ports)
 }
 
 /// The protocols of a member.
 fn member_protocols(word: &[u8]) -> Result<Protocols, LineKind>
-    ensures { result ≡ member_protocols word.now }
+    ensures { result ≡ meant.member_protocols word.now }
 {
     if word == b"tcp-udp".as_slice() {
         return Ok(Protocols::TcpUdp);
     }
-    match protocols_of(word) {
-        Ok(span) => Ok(Protocols::Between(span)),
-        Err(kind) => Err(kind),
-    }
-}
-
-/// Whether a text after some protocols says a type of messages.
-fn are_typed(protocols: Protocols, text: &[u8]) -> bool
-    ensures { result ≡ are_typed protocols (words_of text.now) }
-{
-    match next_word(text) {
-        Some(_) => have_types(protocols),
-        None => false,
-    }
-}
-
-/// The service of a member that begins with a word.
-fn service_member(word: &[u8], text: &[u8]) -> Result<Service, LineKind>
-    ensures { result ≡ service_member word.now (words_of text.now) }
-{
-    let protocols = member_protocols(word)?;
-    if are_typed(protocols, text) {
-        return Err(LineKind::IcmpType);
-    }
-    service_ports(protocols, text)
+    Ok(Protocols::Between(protocols_of(word)?))
 }
 
 /// The service of a member, or why it isn't read.
-pub(crate) fn service_of_words(text: &[u8]) -> Result<Service, LineKind>
-    ensures { result ≡ service_of_words (words_of text.now) }
+pub(crate) fn service_of_words(words: &mut Words) -> Result<Service, LineKind>
+    ensures { result ≡ meant.service_of_words words.old }
 {
-    match next_word(text) {
-        Some((word, rest)) => service_member(word, rest),
-        None => Err(LineKind::MissingWord),
+    let protocols = member_protocols(words.required()?)?;
+    if !words.is_empty() && protocols.have_types() {
+        return Err(LineKind::IcmpType);
     }
+    let source = source_ports(words)?;
+    let destination = destination_ports(words)?;
+    service_of(protocols, source, destination)
 }

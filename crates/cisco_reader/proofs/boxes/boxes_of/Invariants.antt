@@ -1,0 +1,8 @@
+-- The boxes so far.
+use Rattle.std.proofs.Common.{[]}
+use Rattle.list_lemmas.proofs.Loops.{Mapped}
+use Rattle.cisco_reader.proofs.boxes.boxes_of.Given as goal
+
+-- there is one for each of the packets so far
+abbrev pub invariant-loop-packets : goal.invariant-loop-packets
+invariant-loop-packets l = Mapped (λ packets. packets) l.all l.packets-index [] l.boxes.items
