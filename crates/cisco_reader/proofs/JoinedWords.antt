@@ -1,6 +1,6 @@
 -- The words of an entry that is read: each part is read off the front of them.
 use Rattle.std.proofs.Common.{◌≡◌, ℕ, Bool, true, false, List, [], ◌∷◌, ◌++◌, Some, None, Option, Ok, Err, Result}
-use Rattle.std.proofs.Common.{refl, sym, ap, ◌∙◌, subst, if◌then◌else◌, not, ◌||◌, nat_lt}
+use Rattle.std.proofs.Common.{refl, ap, ◌∙◌, subst, if◌then◌else◌, not, ◌||◌, nat_lt}
 use Rattle.std.specs.Prelude.{codes}
 use Rattle.std.specs.Str.{bytes_eq}
 use Rattle.list_chains.specs.declared.span.Span.{Span}
@@ -11,16 +11,15 @@ use Rattle.cisco_reader.specs.declared.entry.Carried.TheVariants as carried
 use Rattle.cisco_reader.specs.declared.entry.Services.{Services}
 use Rattle.cisco_reader.specs.declared.entry.Services.TheVariants as services
 use Rattle.cisco_reader.specs.declared.entry.Side.{Side}
-use Rattle.cisco_reader.specs.declared.entry.Entry.{Entry}
 use Rattle.cisco_reader.specs.declared.names.Known.TheVariants.{Log}
-use Rattle.cisco_reader.specs.declared.ports.PortPart.{PortPart}
+use Rattle.cisco_reader.specs.declared.services.PortPart.{PortPart}
 use Rattle.cisco_reader.specs.declared.services.Protocols.TheVariants.{Between}
 use Rattle.cisco_reader.specs.declared.fault.LineKind.{LineKind}
 use Rattle.cisco_reader.specs.declared.fault.LineKind.TheVariants as kind
 use Rattle.cisco_reader.specs.Entry.{address_in, address_word, addresses_of, all_ones, carried_of, log_fault, masked, max_gaps, options_fault, protocols_in, services_with, side_of, unless}
 use Rattle.cisco_reader.specs.Groups.{ListedGroup, place_for}
-use Rattle.cisco_reader.specs.Ports.{port_part}
-use Rattle.cisco_reader.specs.Read.{After, ◌>>=◌, ◌>>-◌, done, found, is_end, required}
+use Rattle.cisco_reader.specs.Services.{port_part}
+use Rattle.cisco_reader.specs.Read.{After, done, found, is_end, required}
 use Rattle.cisco_reader.specs.Services.{are_compared, protocols_of, service_of}
 use Rattle.cisco_reader.specs.Wildcard.{gaps, ip4_plain, under_mask}
 use Rattle.cisco_reader.specs.Names.{is_known}
@@ -42,7 +41,8 @@ masked_reads groups word words read is =
     let text = word_read (address_in kind.BadMask) words mask.read mask.is in
     subst (λ ws. Reads (AreAddresses groups) (word ∷ ws) read) text.joined
     (made (AreAddresses groups) (word ∷ text.text ∷ []) mask.read.words (Under (under_mask address.value free))
-    (joined.Masked word text.text address.value free (was_found kind.BadAddress (ip4_plain word) address.value address.is)
+    (joined.Masked word text.text address.value free
+    (was_found kind.BadAddress (ip4_plain word) address.value address.is)
     (was_found kind.BadMask (ip4_plain text.text) free text.is) refl refl)
     (not_refused (nat_lt max_gaps (gaps 32 free)) kind.BadMask
     (done (Under (under_mask address.value free)) mask.read.words) read mask.goes))
@@ -57,7 +57,8 @@ addresses_read groups words read is =
     let Are = AreAddresses groups in
     subst (λ ws. Reads Are ws read) (front words first.read first.is)
     (either (bytes_eq word (codes "any")) _ _ read
-    (λ all got. made Are (word ∷ []) rest (Under (record { base = 0; free = all_ones })) (joined.Any word all refl refl) got)
+    (λ all got. made Are (word ∷ []) rest (Under (record { base = 0; free = all_ones }))
+    (joined.Any word all refl refl) got)
     (either (bytes_eq word (codes "host")) _ _ read
     (λ named got. with_word Are word (one_read (λ part. Are (word ∷ part)) (address_in kind.BadAddress)
     (λ address. Under (record { base = address; free = 0 })) rest read
@@ -150,7 +151,8 @@ none_compared None (Some part) none = absurd cc
 none_compared (Some part) destination none = absurd cc
 
 -- a test that refuses didn't hold, and this is what was read
-group_is : (test : Bool) (place : ℕ) (it : Services) → (if test then Err kind.Group else Ok (services.Group place)) ≡ Ok it →
+group_is : (test : Bool) (place : ℕ) (it : Services) →
+    (if test then Err kind.Group else Ok (services.Group place)) ≡ Ok it →
     (test ≡ false) × (it ≡ services.Group place)
 group_is true place it is = absurd cc
 group_is false place it is = let e : it ≡ services.Group place = cc in (refl, e)

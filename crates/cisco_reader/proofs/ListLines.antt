@@ -6,7 +6,7 @@ use Rattle.cisco_reader.specs.declared.fault.LineFault.{LineFault}
 use Rattle.cisco_reader.specs.declared.fault.LineKind.{LineKind}
 use Rattle.cisco_reader.specs.declared.fault.Stop.{Stop}
 use Rattle.cisco_reader.specs.declared.fault.Stop.TheVariants as stopped
-use Rattle.cisco_reader.specs.Read.{◌>>=◌, Becomes, Fails, Refuses, fault_of, in_line, with_lines}
+use Rattle.cisco_reader.specs.Read.{◌>>=◌, Fails, Refuses, fault_of, in_line, with_lines}
 
 -- the fault of a line, or what the lines after it make
 abbrev line_then : {S A : Type 0} → ℕ → Result S LineKind → (S → Result A LineFault) → Result A LineFault

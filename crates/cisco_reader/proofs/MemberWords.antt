@@ -1,6 +1,6 @@
 -- The words of a member that is read: each part is read off the front of them.
-use Rattle.std.proofs.Common.{◌≡◌, ℕ, Bool, ◌+◌, ◌-◌, ◌==◌, ◌&&◌, true, false, List, [], ◌∷◌, ◌++◌, Some, None, Option, Ok, Err, Result}
-use Rattle.std.proofs.Common.{refl, sym, ap, ◌∙◌, subst, append-nil, if◌then◌else◌, nat_le, bit_and}
+use Rattle.std.proofs.Common.{◌≡◌, ℕ, Bool, ◌+◌, ◌-◌, ◌==◌, true, false, List, [], ◌∷◌, ◌++◌, Some, None, Option, Ok, Err, Result}
+use Rattle.std.proofs.Common.{refl, sym, ap, ◌∙◌, subst, append-nil, if◌then◌else◌, nat_le}
 use Rattle.std.specs.Prelude.{codes}
 use Rattle.std.specs.Str.{bytes_eq}
 use Rattle.text_scan.specs.Parts.{slash, cut_at}
@@ -8,9 +8,9 @@ use Rattle.list_chains.specs.declared.span.Span.{Span}
 use Rattle.cisco_reader.specs.declared.fault.LineKind.{LineKind}
 use Rattle.cisco_reader.specs.declared.fault.LineKind.TheVariants.{BadAddress, BadNetworkMask}
 use Rattle.cisco_reader.specs.Entry.{address_in, all_ones}
-use Rattle.cisco_reader.specs.Members.{addresses_between, length_or_mask, masked_span, network_member, network_of, plain_member, prefix_span, prefixed, range_of}
+use Rattle.cisco_reader.specs.Held.{addresses_between, length_or_mask, network_member, network_of, plain_member, prefix_span, prefixed, range_of}
 use Rattle.cisco_reader.specs.Names.{number_of}
-use Rattle.cisco_reader.specs.Read.{After, ◌>>=◌, ◌>>-◌, done, found, required}
+use Rattle.cisco_reader.specs.Read.{After, done, found, required}
 use Rattle.cisco_reader.specs.Wildcard.{ip4_plain}
 use Rattle.cisco_reader.specs.Joined as joined
 use Rattle.cisco_reader.specs.Joined.{IsNetwork}
@@ -45,8 +45,8 @@ after_is text address mark word it said is =
     (was_found BadNetworkMask (ip4_plain (mark ∷ word)) mask.value mask.is) refl e) is
 
 -- an address, and what stands after it or nothing
-network_reads : (text : List ℕ) (address : ℕ) (words : List (List ℕ)) (read : After Span) → ip4_plain text ≡ Some address →
-    network_of address words ≡ Ok read → Reads IsNetwork (text ∷ words) read
+network_reads : (text : List ℕ) (address : ℕ) (words : List (List ℕ)) (read : After Span) →
+    ip4_plain text ≡ Some address → network_of address words ≡ Ok read → Reads IsNetwork (text ∷ words) read
 network_reads text address [] read said is =
     made IsNetwork (text ∷ []) [] (addresses_between address address) (joined.Alone text address said refl refl) is
 network_reads text address ([] ∷ words) read said is = absurd cc

@@ -1,18 +1,18 @@
 -- The words of ports that are read: each part is read off the front of them.
-use Rattle.std.proofs.Common.{◌≡◌, ℕ, Bool, true, false, List, [], ◌∷◌, ◌++◌, Some, None, Option, Ok, Err, Result, map, length}
+use Rattle.std.proofs.Common.{◌≡◌, ℕ, Bool, true, false, List, [], ◌∷◌, ◌++◌, Some, None, Option, Ok, map, length}
 use Rattle.std.proofs.Common.{refl, sym, ap, ◌∙◌, subst, append_assoc, append-nil, nat_le, nat_lt, ◌==◌}
 use Rattle.list_chains.specs.declared.span.Span.{Span}
-use Rattle.cisco_reader.specs.declared.ports.Operator.{Operator}
-use Rattle.cisco_reader.specs.declared.ports.Operator.TheVariants as operator
-use Rattle.cisco_reader.specs.declared.ports.PortPart.{PortPart}
+use Rattle.cisco_reader.specs.declared.services.Operator.{Operator}
+use Rattle.cisco_reader.specs.declared.services.Operator.TheVariants as operator
+use Rattle.cisco_reader.specs.declared.services.PortPart.{PortPart}
 use Rattle.cisco_reader.specs.declared.fault.LineKind.TheVariants.{BadPort, ManyPorts}
 use Rattle.cisco_reader.specs.Names.{port_of}
 use Rattle.cisco_reader.specs.PortList.{ended, listed, listed_then, max_ports, ports_above, ports_below, ports_between}
-use Rattle.cisco_reader.specs.Ports.{compared, equals, is_negated, next_operator, next_port, operator_named, or_none, port_part, port_word, with_operator}
-use Rattle.cisco_reader.specs.Read.{After, ◌>>=◌, ◌>>-◌, done, found}
+use Rattle.cisco_reader.specs.Services.{compared, equals, is_negated, next_port, operator_named, or_none, port_part, port_word, with_operator}
+use Rattle.cisco_reader.specs.Read.{After, done}
 use Rattle.cisco_reader.specs.Joined as joined
 use Rattle.cisco_reader.specs.Joined.{AreCompared, AreNumbers, one}
-use Rattle.cisco_reader.proofs.Taken.{Reads, left, made, not_refused, one_read, was_found, with_word, word_read}
+use Rattle.cisco_reader.proofs.Taken.{Reads, left, made, not_refused, one_read, was_found, word_read}
 
 -- some ports were read off the front of words, after others
 record ReadsPorts (ports : List Span) (words : List (List ℕ)) (read : After (List Span)) : Type 0 where

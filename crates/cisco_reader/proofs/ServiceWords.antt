@@ -1,19 +1,17 @@
 -- The words of a member of a group of services that is read: each part is read off the front of them.
-use Rattle.std.proofs.Common.{◌≡◌, ℕ, true, false, List, [], ◌∷◌, ◌++◌, Some, None, Option, Ok, Err, Result}
-use Rattle.std.proofs.Common.{refl, sym, ap, ◌∙◌, subst, append-nil, not, ◌&&◌, if◌then◌else◌}
+use Rattle.std.proofs.Common.{◌≡◌, ℕ, true, false, List, [], ◌∷◌, ◌++◌, Some, None, Option, Ok}
+use Rattle.std.proofs.Common.{refl, sym, ap, ◌∙◌, subst, append-nil, not, ◌&&◌}
 use Rattle.std.specs.Prelude.{codes}
 use Rattle.std.specs.Str.{bytes_eq}
-use Rattle.list_chains.specs.declared.span.Span.{Span}
-use Rattle.cisco_reader.specs.declared.ports.Operator.{Operator}
-use Rattle.cisco_reader.specs.declared.ports.PortPart.{PortPart}
+use Rattle.cisco_reader.specs.declared.services.Operator.{Operator}
+use Rattle.cisco_reader.specs.declared.services.PortPart.{PortPart}
 use Rattle.cisco_reader.specs.declared.services.Protocols.{Protocols}
 use Rattle.cisco_reader.specs.declared.services.Protocols.TheVariants.{Between, TcpUdp}
 use Rattle.cisco_reader.specs.declared.services.Service.{Service}
-use Rattle.cisco_reader.specs.declared.fault.LineKind.{LineKind}
 use Rattle.cisco_reader.specs.declared.fault.LineKind.TheVariants.{BadPort, IcmpType, NeedsProtocol}
 use Rattle.cisco_reader.specs.Names.{port_of}
-use Rattle.cisco_reader.specs.Ports.{operator_named, port_word}
-use Rattle.cisco_reader.specs.Read.{After, ◌>>=◌, ◌>>-◌, done, found, required}
+use Rattle.cisco_reader.specs.Services.{operator_named, port_word}
+use Rattle.cisco_reader.specs.Read.{After, required}
 use Rattle.cisco_reader.specs.Services.{are_compared, destination_ports, have_ports, member_protocols, or_alone, protocols_of, service_of, some_ports, source_ports}
 use Rattle.cisco_reader.specs.Joined as joined
 use Rattle.cisco_reader.specs.Joined.{AreDestinationPorts, AreProtocols, AreSomePorts, AreSourcePorts, IsService, one}

@@ -1,7 +1,7 @@
 -- An entry of an extended list after `permit` or `deny` (Cisco IOS Security Command Reference,
 -- "permit (IP)"): a protocol or a group of services, the source with its ports, the destination
 -- with its ports, and `log` or `log-input` with at most one word. Beside a group no ports stand.
-use Rattle.std.specs.Prelude.{ℕ, Bool, not, ◌||◌, nat_lt, if◌then◌else◌, codes}
+use Rattle.std.specs.Prelude.{ℕ, not, ◌||◌, nat_lt, if◌then◌else◌, codes}
 use Rattle.std.specs.Prelude.{List, [], ◌∷◌, Option, Some, None, Result, Ok, Err}
 use Rattle.std.specs.Str.{bytes_eq}
 use Rattle.list_chains.specs.declared.span.Span.{Span}
@@ -15,13 +15,13 @@ use Rattle.cisco_reader.specs.declared.entry.Verdict.{Verdict}
 use Rattle.cisco_reader.specs.declared.entry.Side.{Side}
 use Rattle.cisco_reader.specs.declared.entry.Entry.{Entry}
 use Rattle.cisco_reader.specs.declared.names.Known.TheVariants.{Compared, Log}
-use Rattle.cisco_reader.specs.declared.ports.PortPart.{PortPart}
+use Rattle.cisco_reader.specs.declared.services.PortPart.{PortPart}
 use Rattle.cisco_reader.specs.declared.services.Protocols.TheVariants.{Between}
 use Rattle.cisco_reader.specs.declared.fault.LineKind.{LineKind}
 use Rattle.cisco_reader.specs.declared.fault.LineKind.TheVariants.{BadAddress, BadMask, Compares, Group}
 use Rattle.cisco_reader.specs.declared.fault.LineKind.TheVariants.{IcmpType, UnknownWord}
 use Rattle.cisco_reader.specs.Groups.{ListedGroup, place_for}
-use Rattle.cisco_reader.specs.Ports.{port_part}
+use Rattle.cisco_reader.specs.Services.{port_part}
 use Rattle.cisco_reader.specs.Read.{After, ◌>>=◌, ◌>>-◌, done, found, is_end, one_word, required}
 use Rattle.cisco_reader.specs.Services.{any_protocol, are_compared, has_types, protocols_of, service_of}
 use Rattle.cisco_reader.specs.Wildcard.{gaps, ip4_plain, under_mask}
@@ -69,8 +69,8 @@ addresses_of groups words = required words >>- λ word rest.
 
 -- a side of an entry: addresses, and ports where any are compared
 abbrev pub side_of : List ListedGroup → List (List ℕ) → Result (After Side) LineKind
-side_of groups words = addresses_of groups words >>- λ found_ rest. (port_part rest >>- λ ports left.
-    done (record { addresses = found_; ports = ports }) left)
+side_of groups words = addresses_of groups words >>- λ near rest.
+    (port_part rest >>- λ ports left. done (record { addresses = near; ports = ports }) left)
 
 -- what stands for protocols: those of a word, or a group of services
 abbrev pub carried_of : List ListedGroup → List (List ℕ) → Result (After Carried) LineKind
@@ -121,9 +121,9 @@ abbrev pub entry_of : List ListedGroup → Verdict → List (List ℕ) → Resul
 entry_of groups verdict words = carried_of groups words >>- λ it first.
     (side_of groups first >>- λ source second. (side_of groups second >>- λ destination third.
     unless (options_fault (protocols_in it) third)
-    (services_with it source.ports destination.ports >>= λ found_. Ok (record {
+    (services_with it source.ports destination.ports >>= λ served. Ok (record {
       verdict = verdict;
-      services = found_;
+      services = served;
       source = source.addresses;
       destination = destination.addresses;
     }))))

@@ -2,7 +2,7 @@
 -- "object-group service"; "Object Groups for ACLs"): each has a kind, a name, and lines of members.
 -- They are gathered before the lists are read, so that a group may stand after a list or a group
 -- that names it. A group that is begun again goes on.
-use Rattle.std.specs.Prelude.{ℕ, Bool, not, nat_lt, if◌then◌else◌, codes, List, [], ◌∷◌, ◌++◌, length, slice_set}
+use Rattle.std.specs.Prelude.{ℕ, Bool, nat_lt, if◌then◌else◌, codes, List, [], ◌∷◌, ◌++◌, length, slice_set}
 use Rattle.std.specs.Prelude.{slice_index_or, Option, Some, None, Result, Ok, Err}
 use Rattle.std.specs.List.{position}
 use Rattle.std.specs.Str.{bytes_eq}
@@ -14,7 +14,7 @@ use Rattle.cisco_reader.specs.declared.fault.LineKind.{LineKind}
 use Rattle.cisco_reader.specs.declared.fault.LineKind.TheVariants.{BadGroup, KindTwice, NoGroup, OtherKind, TakenOut}
 use Rattle.cisco_reader.specs.declared.names.Known.TheVariants.{GroupKind}
 use Rattle.cisco_reader.specs.Heads.{head_of}
-use Rattle.cisco_reader.specs.Read.{◌>>=◌, rest_of, with_lines}
+use Rattle.cisco_reader.specs.Read.{rest_of, with_lines}
 use Rattle.cisco_reader.specs.Names.{is_known}
 
 -- a line of a group: its number, and its words

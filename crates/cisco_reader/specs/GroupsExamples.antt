@@ -6,7 +6,7 @@ use Rattle.std.specs.Fmt.{digits}
 use Rattle.list_chains.specs.declared.span.Span.{Span}
 use Rattle.cisco_reader.specs.declared.entry.Addresses.TheVariants.{Group}
 use Rattle.cisco_reader.specs.declared.entry.Services.TheVariants as of
-use Rattle.cisco_reader.specs.declared.ports.PortPart.{PortPart}
+use Rattle.cisco_reader.specs.declared.services.PortPart.{PortPart}
 use Rattle.cisco_reader.specs.declared.services.Protocols.{Protocols}
 use Rattle.cisco_reader.specs.declared.services.Protocols.TheVariants.{Between, TcpUdp}
 use Rattle.cisco_reader.specs.declared.services.Service.{Service}
@@ -65,7 +65,12 @@ unheld : are_unheld ((
   kind.GroupLoop,
 )
     ∷ (codes "object-group network A\n group-object B\n", 2, kind.NoGroup)
-    ∷ (codes "object-group network A\n group-object B\nobject-group service B\n tcp\n", 2, kind.OtherKind)
+    ∷ (
+      codes "object-group network A\n group-object B\n"
+          ++ codes "object-group service B\n tcp\n",
+      2,
+      kind.OtherKind,
+    )
     ∷ (codes "object-group network A\n description none\n", 9, kind.EmptyGroup)
     ∷ (codes "object-group network A\n host 10.0.0.1\n no host 10.0.0.1\n", 3, kind.TakenOut)
     ∷ (codes "object-group network A\n 10.0.0.0 0.0.0.255\n", 2, kind.BadNetworkMask)
@@ -129,7 +134,12 @@ refused : are_refused (
     ∷ (codes "object-group service S\n tcp\n tcp eq 80 443\n", 3, kind.UnknownWord)
     ∷ (codes "object-group service S\n esp 80\n", 2, kind.NeedsProtocol)
     ∷ (codes "object-group service S\n tcp source\n", 2, kind.MissingWord)
-    ∷ (codes "object-group service S\n group-object T\nobject-group network T\n any\n", 2, kind.OtherKind)
+    ∷ (
+      codes "object-group service S\n group-object T\n"
+          ++ codes "object-group network T\n any\n",
+      2,
+      kind.OtherKind,
+    )
     ∷ (codes "object-group service S\n tcp\n group-object S\n", 3, kind.GroupLoop)
     ∷ [])
 unfolding with_lines digits is_among part_words opened_times

@@ -1,7 +1,7 @@
 -- What a line of a configuration is, as `show running-config` writes it: a command of access lists,
--- an entry, or a line of another part; and where the lines after a command of lists stand (Cisco IOS Security Command Reference, "access-list (IP
--- extended)", "ip access-list" and "ipv6 access-list"; Cisco IOS Master Command List, commands of
--- the global configuration mode).
+-- an entry, or a line of another part; and where the lines after a command of lists stand (Cisco
+-- IOS Security Command Reference, "access-list (IP extended)", "ip access-list" and "ipv6
+-- access-list"; Cisco IOS Master Command List, commands of the global configuration mode).
 use Rattle.std.specs.Prelude.{ℕ, ◌==◌, Bool, true, false, not, ◌&&◌, ◌||◌, is_some, nat_le, if◌then◌else◌, codes}
 use Rattle.std.specs.Prelude.{List, [], ◌∷◌, Option, Some, None, Result, Ok, Err}
 use Rattle.std.specs.Str.{bytes_eq}

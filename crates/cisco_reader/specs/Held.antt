@@ -1,10 +1,15 @@
 -- What a group holds: the lines of its members, in which a group is replaced by its own lines, over
 -- and over; and what they stand for. A group that is still there after so many times lies within
--- itself, or in more groups than are read.
-use Rattle.std.specs.Prelude.{ℕ, nat_lt, if◌then◌else◌, codes, List, [], ◌∷◌, ◌++◌, length}
-use Rattle.std.specs.Prelude.{slice_index_or, Option, Some, None, Result, Ok, Err}
+-- itself, or in more groups than are read. A member of a group of networks is `any`, a host, a
+-- range, or a network with the length of its prefix or its mask (Cisco IOS Security Command
+-- Reference, "object-group network"). Set bits of that mask stand at the left and count, other than
+-- those of a wildcard mask.
+use Rattle.std.specs.Prelude.{ℕ, ◌+◌, ◌-◌, ◌*◌, ◌/◌, ◌^◌, ◌==◌, Bool, not, ◌&&◌, nat_le, nat_lt, if◌then◌else◌, codes, bit_and}
+use Rattle.std.specs.Prelude.{List, [], ◌∷◌, ◌++◌, length, slice_index_or, Option, Some, None, Result, Ok, Err}
 use Rattle.std.proofs.Common.{zero, suc}
 use Rattle.std.specs.List.{position}
+use Rattle.std.specs.Str.{bytes_eq}
+use Rattle.text_scan.specs.Parts.{slash, cut_at}
 use Rattle.list_chains.specs.declared.span.Span.{Span}
 use Rattle.cisco_reader.specs.declared.entry.Addresses.{Addresses}
 use Rattle.cisco_reader.specs.declared.entry.Addresses.TheVariants as addresses
@@ -14,12 +19,13 @@ use Rattle.cisco_reader.specs.declared.services.Service.{Service}
 use Rattle.cisco_reader.specs.declared.held.TheConstants.{MAX_DEPTH, MAX_HELD}
 use Rattle.cisco_reader.specs.declared.fault.LineFault.{LineFault}
 use Rattle.cisco_reader.specs.declared.fault.LineKind.{LineKind}
-use Rattle.cisco_reader.specs.declared.fault.LineKind.TheVariants.{EmptyGroup, GroupLoop, LargeGroup}
+use Rattle.cisco_reader.specs.declared.fault.LineKind.TheVariants as fault
+use Rattle.cisco_reader.specs.Entry.{address_word, all_ones}
 use Rattle.cisco_reader.specs.Groups.{GroupLine, ListedGroup, no_group, place_for}
-use Rattle.cisco_reader.specs.Members.{network_of_words}
-use Rattle.cisco_reader.specs.Read.{◌>>=◌, ◌>>-◌, all_after, alone, in_line, is_next, required, rest_of}
+use Rattle.cisco_reader.specs.Names.{number_of}
+use Rattle.cisco_reader.specs.Read.{After, ◌>>=◌, ◌>>-◌, all_after, alone, done, found, in_line, is_next, required, rest_of}
 use Rattle.cisco_reader.specs.Services.{service_of_words}
-use Rattle.cisco_reader.specs.Wildcard.{spans_under}
+use Rattle.cisco_reader.specs.Wildcard.{ip4_plain, spans_under}
 
 -- how many members a group may hold, with those of the groups in it
 abbrev pub max_held : ℕ
@@ -33,14 +39,14 @@ max_depth = MAX_DEPTH
 
 -- a group that is named has members
 abbrev pub filled : List GroupLine → Result (List GroupLine) LineKind
-filled [] = Err EmptyGroup
+filled [] = Err fault.EmptyGroup
 filled (line ∷ lines) = Ok (line ∷ lines)
 
 -- the lines of the group of a place
 abbrev pub lines_at : List ListedGroup → ℕ → Result (List GroupLine) LineKind
 lines_at groups place = filled (slice_index_or groups place no_group).lines
 
--- the lines of the group that is named by a word, after which nothing stands; it is of the same kind
+-- the lines of the group that one word names, which is of the same kind
 abbrev pub inner_lines : List ListedGroup → List ℕ → List (List ℕ)
     → Result (List GroupLine) LineKind
 inner_lines groups kind words = required words >>- λ name rest. (alone rest name >>=
@@ -55,7 +61,7 @@ opened groups kind line =
 -- some lines, if they aren't too many
 abbrev pub few : ℕ → List GroupLine → Result (List GroupLine) LineFault
 few number lines =
-    if nat_lt max_held (length lines) then Err (record { line = number; kind = LargeGroup })
+    if nat_lt max_held (length lines) then Err (record { line = number; kind = fault.LargeGroup })
     else Ok lines
 
 -- the lines so far with those of a line
@@ -71,7 +77,8 @@ all_opened groups kind number lines = all_after (with_opened groups kind number)
 
 -- the place of the first line that names a group
 abbrev pub first_naming : List GroupLine → Option ℕ
-first_naming lines = position (λ (line : GroupLine). is_next (codes "group-object") line.words) lines
+first_naming lines =
+    position (λ (line : GroupLine). is_next (codes "group-object") line.words) lines
 
 -- the number of the line of a place
 abbrev pub number_at : List GroupLine → ℕ → ℕ
@@ -87,7 +94,7 @@ unless_naming lines (Some place) following = following place
 unfoldable pub opened_times : ℕ → List ListedGroup → List ℕ → ℕ → List GroupLine
     → Result (List GroupLine) LineFault
 opened_times zero groups kind number lines = unless_naming lines (first_naming lines)
-    (λ place. Err (record { line = number_at lines place; kind = GroupLoop }))
+    (λ place. Err (record { line = number_at lines place; kind = fault.GroupLoop }))
 opened_times (suc times) groups kind number lines = unless_naming lines (first_naming lines)
     (λ place. all_opened groups kind number lines >>= opened_times times groups kind number)
 
@@ -95,6 +102,73 @@ opened_times (suc times) groups kind number lines = unless_naming lines (first_n
 abbrev pub held : List ListedGroup → List ℕ → ℕ → ℕ → Result (List GroupLine) LineFault
 held groups kind number place =
     in_line number (lines_at groups place) >>= opened_times max_depth groups kind number
+
+-- ---- members of groups of networks
+
+-- the addresses from one to another
+abbrev pub addresses_between : ℕ → ℕ → Span
+addresses_between low high = record { low = low; high = high }
+
+-- the addresses that agree with one in all but their last bits
+abbrev pub prefix_span : ℕ → ℕ → Span
+prefix_span address free = addresses_between
+    (address / 2 ^ free * 2 ^ free) (address / 2 ^ free * 2 ^ free + (2 ^ free - 1))
+
+-- the bits that a mask of a network leaves: those that it hasn't stand at the right, and aren't all
+abbrev pub is_network_mask : ℕ → Bool
+is_network_mask mask = bit_and (all_ones - mask) (all_ones - mask + 1) == 0 && not (mask == 0)
+
+-- the addresses of a network, in which the bits after the mask are 0
+abbrev pub masked_span : ℕ → ℕ → Result Span LineKind
+masked_span address mask =
+    if is_network_mask mask && bit_and address (all_ones - mask) == 0
+    then Ok (addresses_between address (address + (all_ones - mask))) else Err fault.BadNetworkMask
+
+-- the length of a prefix after its slash
+abbrev pub prefixed : ℕ → List ℕ → Result Span LineKind
+prefixed address text = found fault.BadNetworkMask (number_of 32 text) >>= λ bits.
+    Ok (prefix_span address (32 - bits))
+
+-- what may stand after an address: the length of its prefix after a slash, or its mask
+abbrev pub length_or_mask : ℕ → List ℕ → Result Span LineKind
+length_or_mask address [] = Err fault.BadNetworkMask
+length_or_mask address (c ∷ cs) =
+    if c == slash then prefixed address cs
+    else (found fault.BadNetworkMask (ip4_plain (c ∷ cs)) >>= masked_span address)
+
+-- an address and what stands after it, or nothing
+abbrev pub network_of : ℕ → List (List ℕ) → Result (After Span) LineKind
+network_of address [] = done (addresses_between address address) []
+network_of address (word ∷ words) = length_or_mask address word >>= λ span. done span words
+
+-- an address with the length of its prefix in one word, or one that another word may follow
+abbrev pub plain_member : List ℕ → List (List ℕ) → Option (List ℕ × List ℕ)
+    → Result (After Span) LineKind
+plain_member word words None =
+    found fault.BadAddress (ip4_plain word) >>= λ address. network_of address words
+plain_member word words (Some cut) = found fault.BadAddress (ip4_plain cut.0) >>= λ address.
+    (prefixed address cut.1 >>= λ span. done span words)
+
+-- both addresses of a range
+abbrev pub range_of : List (List ℕ) → Result (After Span) LineKind
+range_of words = required words >>- λ low rest. (required rest >>- λ high left.
+    (found fault.BadAddress (ip4_plain low) >>= λ first. (found fault.BadAddress (ip4_plain high) >>= λ last.
+    (if nat_le first last then done (addresses_between first last) left else Err fault.BadAddress))))
+
+-- the addresses of a member of a group of networks that begins with a word
+abbrev pub network_member : List ℕ → List (List ℕ) → Result (After Span) LineKind
+network_member word words =
+    if bytes_eq word (codes "any") then done (addresses_between 0 all_ones) words
+    else (if bytes_eq word (codes "host")
+    then (address_word fault.BadAddress words >>- λ address rest.
+    done (addresses_between address address) rest)
+    else (if bytes_eq word (codes "range") then range_of words
+    else plain_member word words (cut_at slash word)))
+
+-- the addresses of a member, after which nothing stands
+abbrev pub network_of_words : List (List ℕ) → Result Span LineKind
+network_of_words words = required words >>- λ word rest.
+    (network_member word rest >>- λ span left. alone left span)
 
 -- ---- what members stand for
 

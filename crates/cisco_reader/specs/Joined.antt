@@ -11,8 +11,8 @@ use Rattle.cisco_reader.specs.declared.entry.Carried.{Carried}
 use Rattle.cisco_reader.specs.declared.entry.Carried.TheVariants as carried
 use Rattle.cisco_reader.specs.declared.entry.Services.{Services}
 use Rattle.cisco_reader.specs.declared.entry.Services.TheVariants as services
-use Rattle.cisco_reader.specs.declared.ports.Operator.TheVariants as operator
-use Rattle.cisco_reader.specs.declared.ports.PortPart.{PortPart}
+use Rattle.cisco_reader.specs.declared.services.Operator.TheVariants as operator
+use Rattle.cisco_reader.specs.declared.services.PortPart.{PortPart}
 use Rattle.cisco_reader.specs.declared.names.Known.TheVariants as known
 use Rattle.cisco_reader.specs.declared.services.Protocols.{Protocols}
 use Rattle.cisco_reader.specs.declared.services.Protocols.TheVariants as protocols
@@ -21,10 +21,10 @@ use Rattle.cisco_reader.specs.declared.entry.Verdict.{Verdict}
 use Rattle.cisco_reader.specs.declared.entry.Entry.{Entry}
 use Rattle.cisco_reader.specs.Entry.{all_ones, entry_of}
 use Rattle.cisco_reader.specs.Groups.{ListedGroup, place_for}
-use Rattle.cisco_reader.specs.Members.{network_of_words, prefix_span}
+use Rattle.cisco_reader.specs.Held.{network_of_words, prefix_span}
 use Rattle.cisco_reader.specs.Names.{number_of, port_of}
 use Rattle.cisco_reader.specs.PortList.{ports_above, ports_below}
-use Rattle.cisco_reader.specs.Ports.{operator_named}
+use Rattle.cisco_reader.specs.Services.{operator_named}
 use Rattle.cisco_reader.specs.Services.{protocols_of, service_of_words}
 use Rattle.cisco_reader.specs.Wildcard.{ip4_plain, under_mask}
 use Rattle.cisco_reader.specs.Names.{is_known}

@@ -3,12 +3,10 @@ pub mod Names
 pub mod Wildcard
 pub mod WildcardExamples
 pub mod PortList
-pub mod Ports
 pub mod Services
 pub mod Heads
 pub mod Groups
 pub mod Entry
-pub mod Members
 pub mod Held
 pub mod Joined
 pub mod Lists

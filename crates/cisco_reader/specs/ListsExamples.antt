@@ -62,127 +62,121 @@ entry sequence line verdict protocol source destination = record {
 abbrev said_of : List ℕ → List ℕ → Result (List Placed) LineFault
 said_of name text = groups_of text >>= λ groups. entries_of groups name text
 
--- what the list A says
-abbrev said_by : List ℕ → Result (List Placed) LineFault
-said_by text = said_of (codes "A") text
-
--- what it says where one entry stands in its second line
-abbrev one : List ℕ → Result (List Placed) LineFault
-one line = said_by (codes "ip access-list extended A\n " ++ line ++ codes "\n")
+-- a file whose list A has an entry in its second line
+abbrev in_list : List ℕ → List ℕ
+in_list line = codes "ip access-list extended A\n " ++ line ++ codes "\n"
 
 -- a fault of a line
 abbrev faulty : ℕ → LineKind → Result (List Placed) LineFault
 faulty line kind = Err (record { line = line; kind = kind })
 
--- ---- lists
+-- files, the list that is asked for, and what it says
+abbrev are_said : List (List ℕ × List ℕ × List Placed) → Type 0
+are_said rows = map (λ row. said_of row.0 row.1) rows ≡ map (λ row. Ok row.2) rows
 
--- numbered: the entries are those of list 101 alone
-numbered : said_of (codes "101")
-    (codes "access-list 101 permit tcp host 10.1.0.7 any eq 22\naccess-list 102 deny ip any any\n"
-    ++ codes "access-list 101 remark the rest is refused\n"
-    ++ codes "access-list 101 deny   udp any any eq ntp\n")
-    ≡ Ok (entry 10 1 Permit (6 to 6) (host 167837703) (ported any ((22 to 22) ∷ []))
-    ∷ entry 20 4 Deny (17 to 17) any (ported any ((123 to 123) ∷ [])) ∷ [])
-unfolding with_lines digits is_among number_named port_table protocol_table compared_words
-    log_words entry_words part_words
-numbered = refl
-
--- named: entries stand in the order of their numbers, and one without comes last
-in_order : said_by (codes "ip access-list extended A\n20 permit tcp any any\n"
-    ++ codes "10 permit udp any any\n permit gre any any\n")
-    ≡ Ok (entry 10 3 Permit (17 to 17) any any ∷ entry 20 2 Permit (6 to 6) any any
-    ∷ entry 30 4 Permit (47 to 47) any any ∷ [])
-unfolding with_lines digits is_among number_named port_table protocol_table compared_words
-    log_words entry_words part_words
-in_order = refl
-
--- comments and other parts say nothing
-around : said_by (codes "hostname edge\r\n!\r\ninterface Gi0/0\r\n ip access-group A in\r\n"
-    ++ codes "ip access-list extended A\r\n!\r\n permit ip any any\r\nend\r\n")
-    ≡ Ok (entry 10 7 Permit (0 to 255) any any ∷ [])
-unfolding with_lines digits is_among number_named port_table protocol_table compared_words
-    log_words entry_words part_words
-around = refl
-
--- ---- entries
-
--- ports by name and by number after eq
-many_ports : one (codes "permit tcp any host 192.0.2.10 eq www 443")
-    ≡ Ok (entry 10 2 Permit (6 to 6) any
-    (ported (host 3221225994) ((80 to 80) ∷ (443 to 443) ∷ [])) ∷ [])
-unfolding with_lines digits is_among number_named port_table protocol_table compared_words
-    log_words entry_words part_words
-many_ports = refl
-
--- the ports after neq are left out
-not_equal : one (codes "permit tcp any neq telnet any log-input Cookie")
-    ≡ Ok (entry 10 2 Permit (6 to 6) (but any ((23 to 23) ∷ [])) any ∷ [])
-unfolding with_lines digits is_among number_named port_table protocol_table compared_words
-    log_words entry_words part_words
-not_equal = refl
-
--- ports above, below and between others
-above_and_between : one (codes "permit udp any gt 1023 any range 53 80")
-    ≡ Ok (entry 10 2 Permit (17 to 17) (ported any ((1024 to 65535) ∷ []))
-    (ported any ((53 to 80) ∷ [])) ∷ [])
-unfolding with_lines digits is_among number_named port_table protocol_table compared_words
-    log_words entry_words part_words
-above_and_between = refl
-
--- no port is below 0
-below : one (codes "deny tcp any lt 1024 any lt 0")
-    ≡ Ok (entry 10 2 Deny (6 to 6) (ported any ((0 to 1023) ∷ [])) (ported any []) ∷ [])
-unfolding with_lines digits is_among number_named port_table protocol_table compared_words
-    log_words entry_words part_words
-below = refl
-
--- the services are those of a group
-of_a_group : said_by (codes "object-group service S\n tcp www\nip access-list extended A\n"
-    ++ codes " permit object-group S any host 10.1.0.7 log\n")
-    ≡ Ok (record {
-      sequence = 10;
-      line = 4;
-      entry = record {
-        verdict = Permit;
-        services = Group 0;
-        source = any.addresses;
-        destination = (host 167837703).addresses;
-      };
-    } ∷ [])
-unfolding with_lines digits is_among number_named port_table protocol_table compared_words
-    log_words entry_words part_words
-of_a_group = refl
-
--- ---- faults
-
--- lists whose entry has a fault
-abbrev are_faulty_entries : List (List ℕ × ℕ × LineKind) → Type 0
-are_faulty_entries rows = map (λ row. one row.0) rows ≡ map (λ row. faulty row.1 row.2) rows
-
-faulty_entries : are_faulty_entries (
-    (codes "permit tcp any any established", 2, kind.Compares)
-    ∷ (codes "permit icmp any any log 8", 2, kind.IcmpType)
-    ∷ (codes "permit ip 10.0.0.1 any", 2, kind.BadMask)
-    ∷ (codes "permit tcp any any eq 65536", 2, kind.BadPort)
-    ∷ (codes "permit ip any any eq 80", 2, kind.NeedsProtocol)
-    ∷ (codes "10 permit tcp any any\n 10 deny ip any any", 3, kind.SequenceTwice)
-    ∷ (codes "permit tcp any any\nno ip access-list extended A", 3, kind.TakenOut)
+lists : are_said (
+    -- numbered: the entries are those of list 101 alone
+    (
+      codes "101",
+      codes "access-list 101 permit tcp host 10.1.0.7 any eq 22\n"
+          ++ codes "access-list 102 deny ip any any\naccess-list 101 remark the rest is refused\n"
+          ++ codes "access-list 101 deny   udp any any eq ntp\n",
+      entry 10 1 Permit (6 to 6) (host 167837703) (ported any ((22 to 22) ∷ []))
+          ∷ entry 20 4 Deny (17 to 17) any (ported any ((123 to 123) ∷ [])) ∷ [],
+    )
+    -- named: entries stand in the order of their numbers, and one without comes last
+    ∷ (
+      codes "A",
+      codes "ip access-list extended A\n20 permit tcp any any\n"
+          ++ codes "10 permit udp any any\n permit gre any any\n",
+      entry 10 3 Permit (17 to 17) any any ∷ entry 20 2 Permit (6 to 6) any any
+          ∷ entry 30 4 Permit (47 to 47) any any ∷ [],
+    )
+    -- comments and other parts say nothing
+    ∷ (
+      codes "A",
+      codes "hostname edge\r\n!\r\ninterface Gi0/0\r\n ip access-group A in\r\n"
+          ++ codes "ip access-list extended A\r\n!\r\n permit ip any any\r\nend\r\n",
+      entry 10 7 Permit (0 to 255) any any ∷ [],
+    )
+    -- ports by name and by number after eq
+    ∷ (
+      codes "A",
+      in_list (codes "permit tcp any host 192.0.2.10 eq www 443"),
+      entry 10 2 Permit (6 to 6) any
+          (ported (host 3221225994) ((80 to 80) ∷ (443 to 443) ∷ [])) ∷ [],
+    )
+    -- the ports after neq are left out
+    ∷ (
+      codes "A",
+      in_list (codes "permit tcp any neq telnet any log-input Cookie"),
+      entry 10 2 Permit (6 to 6) (but any ((23 to 23) ∷ [])) any ∷ [],
+    )
+    -- ports above, below and between others
+    ∷ (
+      codes "A",
+      in_list (codes "permit udp any gt 1023 any range 53 80"),
+      entry 10 2 Permit (17 to 17) (ported any ((1024 to 65535) ∷ []))
+          (ported any ((53 to 80) ∷ [])) ∷ [],
+    )
+    -- no port is below 0
+    ∷ (
+      codes "A",
+      in_list (codes "deny tcp any lt 1024 any lt 0"),
+      entry 10 2 Deny (6 to 6) (ported any ((0 to 1023) ∷ [])) (ported any []) ∷ [],
+    )
+    -- the services are those of a group
+    ∷ (
+      codes "A",
+      codes "object-group service S\n tcp www\nip access-list extended A\n"
+          ++ codes " permit object-group S any host 10.1.0.7 log\n",
+      record {
+        sequence = 10;
+        line = 4;
+        entry = record {
+          verdict = Permit;
+          services = Group 0;
+          source = any.addresses;
+          destination = (host 167837703).addresses;
+        };
+      } ∷ [],
+    )
     ∷ [])
 unfolding with_lines digits is_among number_named port_table protocol_table compared_words
     log_words entry_words part_words
-faulty_entries = refl
+lists = refl
+
+-- ---- faults
 
 -- files with a fault, and the list that is asked for
 abbrev are_faulty_files : List (List ℕ × List ℕ × ℕ × LineKind) → Type 0
 are_faulty_files rows = map (λ row. said_of row.0 row.1) rows ≡ map (λ row. faulty row.2 row.3) rows
 
-faulty_files : are_faulty_files ((
-  codes "A",
-  codes "object-group service S\n tcp\nip access-list extended A\n"
-      ++ codes " permit object-group S any any eq 80\n",
-  4,
-  kind.Group,
-)
+faulty_files : are_faulty_files (
+    (codes "A", in_list (codes "permit tcp any any established"), 2, kind.Compares)
+    ∷ (codes "A", in_list (codes "permit icmp any any log 8"), 2, kind.IcmpType)
+    ∷ (codes "A", in_list (codes "permit ip 10.0.0.1 any"), 2, kind.BadMask)
+    ∷ (codes "A", in_list (codes "permit tcp any any eq 65536"), 2, kind.BadPort)
+    ∷ (codes "A", in_list (codes "permit ip any any eq 80"), 2, kind.NeedsProtocol)
+    ∷ (
+      codes "A",
+      in_list (codes "10 permit tcp any any\n 10 deny ip any any"),
+      3,
+      kind.SequenceTwice,
+    )
+    ∷ (
+      codes "A",
+      in_list (codes "permit tcp any any\nno ip access-list extended A"),
+      3,
+      kind.TakenOut,
+    )
+    ∷ (
+      codes "A",
+      codes "object-group service S\n tcp\nip access-list extended A\n"
+          ++ codes " permit object-group S any any eq 80\n",
+      4,
+      kind.Group,
+    )
     ∷ (
       codes "A",
       codes "object-group network N\n any\nip access-list extended A\n"

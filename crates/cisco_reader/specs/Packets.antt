@@ -12,7 +12,7 @@ use Rattle.cisco_reader.specs.declared.entry.Verdict.TheVariants as verdict
 use Rattle.cisco_reader.specs.declared.list.Placed.{Placed}
 use Rattle.cisco_reader.specs.declared.packets.Answers.{Answers}
 use Rattle.cisco_reader.specs.declared.packets.Answers.TheVariants as answers
-use Rattle.cisco_reader.specs.declared.ports.PortPart.{PortPart}
+use Rattle.cisco_reader.specs.declared.services.PortPart.{PortPart}
 use Rattle.cisco_reader.specs.declared.services.Service.{Service}
 use Rattle.cisco_reader.specs.declared.packets.TheConstants.{MAX_LIST}
 use Rattle.cisco_reader.specs.declared.fault.LineFault.{LineFault}

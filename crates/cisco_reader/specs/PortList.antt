@@ -1,7 +1,7 @@
 -- Spans of ports, as they are compared; after `eq` and `neq` stand at most 10 (Cisco IOS Security
 -- Command Reference, "permit (IP)", operator and port).
 use Rattle.std.specs.Prelude.{ℕ, ◌+◌, ◌-◌, ◌==◌, nat_le, if◌then◌else◌, List, [], ◌∷◌, ◌++◌, length}
-use Rattle.std.specs.Prelude.{Option, Some, None, Result, Ok, Err}
+use Rattle.std.specs.Prelude.{Option, Some, None, Result, Err}
 use Rattle.list_chains.specs.declared.span.Span.{Span}
 use Rattle.cisco_reader.specs.declared.port_list.TheConstants.{MAX_PORTS}
 use Rattle.cisco_reader.specs.declared.fault.LineKind.{LineKind}

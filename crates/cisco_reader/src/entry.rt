@@ -7,9 +7,9 @@ ghost use Rattle.cisco_reader.specs.Read.{Reads};
 use crate::fault::LineKind;
 use crate::groups::Group;
 use crate::names::Known;
-use crate::ports::{PortPart, port_part};
 use crate::services::{
-    ANY_PROTOCOL, Protocols, Service, are_compared, has_types, protocols_of, service_of,
+    ANY_PROTOCOL, PortPart, Protocols, Service, are_compared, has_types, port_part, protocols_of,
+    service_of,
 };
 use crate::wildcard::{Wildcard, gaps, ip4_plain, under_mask};
 use crate::words::Words;

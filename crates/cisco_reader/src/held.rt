@@ -2,7 +2,6 @@
 
 ghost use Rattle.std.specs.Prelude.{◌≡◌, ◌<◌, ◌++◌, length, codes, IfSome, MatchResult, OnOk, Ok, Err};
 ghost use Rattle.cisco_reader.specs.Held as meant;
-ghost use Rattle.cisco_reader.specs.Members.{network_of_words};
 ghost use Rattle.cisco_reader.specs.Read.{Gives, is_next};
 ghost use Rattle.cisco_reader.specs.Services.{service_of_words};
 
@@ -22,18 +21,6 @@ pub(crate) const MAX_HELD: usize = 65_536;
 /// In how many others a group may lie.
 pub(crate) const MAX_DEPTH: u32 = 100;
 
-/// Lines, of which there have to be some.
-fn filled<'g, 'a>(lines: &'g [Line<'a>]) -> Result<&'g [Line<'a>], LineKind>
-    ensures { MatchResult result
-        (λ same. meant.filled lines.now ≡ Ok same.now)
-        (λ kind. meant.filled lines.now ≡ Err kind) }
-{
-    if lines.is_empty() {
-        return Err(LineKind::EmptyGroup);
-    }
-    Ok(lines)
-}
-
 /// The lines of the group of a place.
 fn lines_at<'g, 'a>(groups: &'g [Group<'a>], place: usize) -> Result<&'g [Line<'a>], LineKind>
     ensures { MatchResult result
@@ -41,7 +28,12 @@ fn lines_at<'g, 'a>(groups: &'g [Group<'a>], place: usize) -> Result<&'g [Line<'
         (λ kind. meant.lines_at groups.now place ≡ Err kind) }
 {
     match groups.get(place) {
-        Some(group) => filled(group.lines()),
+        Some(group) => {
+            if group.lines().is_empty() {
+                return Err(LineKind::EmptyGroup);
+            }
+            Ok(group.lines())
+        }
         None => Err(LineKind::EmptyGroup),
     }
 }
@@ -187,7 +179,7 @@ fn opened_times<'a>(
 
 /// Puts the addresses of a member.
 fn put_network(into: &mut Vec<Span>, line: &Line) -> Result<(), CiscoFault>
-    ensures { Gives (meant.with_member network_of_words into.old.items line.now)
+    ensures { Gives (meant.with_member meant.network_of_words into.old.items line.now)
         (λ none. into.new.items) result }
 {
     match network_of_words(&mut line.words()) {
@@ -201,7 +193,7 @@ fn put_network(into: &mut Vec<Span>, line: &Line) -> Result<(), CiscoFault>
 
 /// The addresses of members.
 fn networks(alloc: Global, lines: &[Line]) -> Result<Vec<Span>, CiscoFault>
-    ensures { Gives (meant.members network_of_words lines.now) (λ spans. spans.items) result }
+    ensures { Gives (meant.members meant.network_of_words lines.now) (λ spans. spans.items) result }
 {
     let mut into = Vec::new(alloc);
     for line in lines {

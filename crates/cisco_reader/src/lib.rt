@@ -9,8 +9,8 @@
 //! | `words` | the words of a line, one after the other |
 //! | `heads` | what a line is in its configuration, and where the next one stands |
 //! | `groups` | groups by their names, with their lines |
-//! | `port_list`, `ports` | comparisons of ports |
-//! | `services` | protocols, services, and members of groups of them |
+//! | `port_list` | ports after `eq` and `neq` |
+//! | `services` | comparisons of ports, protocols, services, and members of groups of them |
 //! | `wildcard` | addresses under a wildcard mask |
 //! | `entry` | an entry, word by word |
 //! | `members` | members of groups of networks |
@@ -37,7 +37,6 @@ mod members;
 mod names;
 mod packets;
 mod port_list;
-mod ports;
 mod services;
 mod wildcard;
 mod words;

@@ -2,7 +2,7 @@
 
 ghost use Rattle.std.specs.Prelude.{◌≡◌, ◌≤◌};
 ghost use Rattle.text_scan.specs.Parts.{cut_at, slash};
-ghost use Rattle.cisco_reader.specs.Members as meant;
+ghost use Rattle.cisco_reader.specs.Held as meant;
 ghost use Rattle.cisco_reader.specs.Read.{Reads};
 
 use crate::fault::LineKind;
@@ -96,7 +96,8 @@ fn length_or_mask(address: u32, word: &[u8]) -> Result<Span, LineKind>
 
 /// A member that no word of its own begins.
 fn plain_member(word: &[u8], words: &mut Words) -> Result<Span, LineKind>
-    ensures { Reads (meant.plain_member word.now words.old (cut_at slash word.now)) result words.new }
+    ensures { Reads (meant.plain_member word.now words.old (cut_at slash word.now)) result
+        words.new }
 {
     if let Some((start, length)) = split_once(word, b'/') {
         let address = ip4_plain(start).ok_or(LineKind::BadAddress)?;

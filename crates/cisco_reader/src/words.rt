@@ -4,7 +4,7 @@ use crate::fault::LineKind;
 use crate::groups::{Group, place_for};
 use crate::names::{Known, number, port};
 use crate::port_list::Ports;
-use crate::ports::{Operator, operator_named};
+use crate::services::{Operator, operator_named};
 use crate::wildcard::ip4_plain;
 use list_chains::Span;
 use std::marker::Model;
@@ -31,7 +31,7 @@ impl<'a> Words<'a> {
     ghost use Rattle.cisco_reader.specs.Entry.{address_word, named_group};
     ghost use Rattle.cisco_reader.specs.Names.{after_number, first_number};
     ghost use Rattle.cisco_reader.specs.PortList.{listed};
-    ghost use Rattle.cisco_reader.specs.Ports.{after_operator, next_operator, next_port};
+    ghost use Rattle.cisco_reader.specs.Services.{after_operator, next_operator, next_port};
     ghost use Rattle.cisco_reader.specs.Read.{Reads, alone, done, is_end, is_next, required, rest_of};
     ghost use Rattle.cisco_reader.specs.Names.{begins_known};
 
@@ -44,7 +44,8 @@ impl<'a> Words<'a> {
 
     /// The next word, if there is one.
     pub(crate) fn next(&mut self) -> Option<&'a [u8]>
-        ensures first { MatchOption result (self.old ≡ []) (λ word. self.old ≡ word.now ∷ self.new) }
+        ensures first { MatchOption result (self.old ≡ [])
+            (λ word. self.old ≡ word.now ∷ self.new) }
         ensures rest { self.new ≡ rest_of self.old }
     {
         let (word, rest) = next_word(self.left)?;

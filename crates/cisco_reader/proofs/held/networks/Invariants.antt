@@ -1,7 +1,7 @@
 -- The addresses so far.
 use Rattle.std.proofs.Common.{[]}
 use Rattle.cisco_reader.specs.Held.{with_member}
-use Rattle.cisco_reader.specs.Members.{network_of_words}
+use Rattle.cisco_reader.specs.Held.{network_of_words}
 use Rattle.cisco_reader.proofs.Steps.{IsMadeUpTo}
 use Rattle.cisco_reader.proofs.held.networks.Given as goal
 
