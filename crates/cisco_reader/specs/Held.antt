@@ -152,8 +152,10 @@ plain_member word words (Some cut) = found fault.BadAddress (ip4_plain cut.0) >>
 -- both addresses of a range
 abbrev pub range_of : List (List ℕ) → Result (After Span) LineKind
 range_of words = required words >>- λ low rest. (required rest >>- λ high left.
-    (found fault.BadAddress (ip4_plain low) >>= λ first. (found fault.BadAddress (ip4_plain high) >>= λ last.
-    (if nat_le first last then done (addresses_between first last) left else Err fault.BadAddress))))
+    (found fault.BadAddress (ip4_plain low) >>= λ first.
+    (found fault.BadAddress (ip4_plain high) >>= λ last.
+    (if nat_le first last then done (addresses_between first last) left
+    else Err fault.BadAddress))))
 
 -- the addresses of a member of a group of networks that begins with a word
 abbrev pub network_member : List ℕ → List (List ℕ) → Result (After Span) LineKind

@@ -51,7 +51,8 @@ compared once operator.NotEqual words = equals once words
 compared once operator.Greater words = next_port words >>- λ port rest. done (ports_above port) rest
 compared once operator.Less words = next_port words >>- λ port rest. done (ports_below port) rest
 compared once operator.Range words = next_port words >>- λ low rest.
-    (next_port rest >>- λ high left. (if nat_lt high low then Err kind.BadPort else done (ports_between low high) left))
+    (next_port rest >>- λ high left. (if nat_lt high low then Err kind.BadPort
+    else done (ports_between low high) left))
 
 -- the ports are left out after neq
 abbrev pub is_negated : Operator → Bool

@@ -169,22 +169,6 @@ impl<'p> Pairs<'p> {
     ghost use Rattle.std.specs.Prelude.{◌≡◌, ◌++◌, flat_map, IfOk, OnOk};
     ghost use Rattle.cisco_reader.specs.Packets as meant;
 
-    /// Those of an entry, whose addresses are these.
-    fn of(
-        answers: Answers,
-        placed: &Placed,
-        sources: &'p [Span],
-        destinations: &'p [Span],
-    ) -> Pairs<'p>
-        ensures { result ≡ meant.pairs_of answers placed.now sources.now destinations.now }
-    {
-        Pairs {
-            answer: answer_of(answers, placed.line, placed.entry.verdict),
-            sources,
-            destinations,
-        }
-    }
-
     /// Whether there are too many of them, alone or with some services.
     fn are_many(&self, services: &[Service]) -> bool
         ensures { result ≡ meant.are_many self.now services.now }
@@ -281,7 +265,11 @@ fn put_rules(
     let entry = &placed.entry;
     let sources = address_spans(alloc, groups, placed.line, entry.source)?;
     let destinations = address_spans(alloc, groups, placed.line, entry.destination)?;
-    let pairs = Pairs::of(answers, placed, &sources, &destinations);
+    let pairs = Pairs {
+        answer: answer_of(answers, placed.line, entry.verdict),
+        sources: &sources,
+        destinations: &destinations,
+    };
     match &entry.services {
         Services::Own(service) => {
             put_paired(alloc, placed.line, &pairs, slice::from_ref(service), rules)

@@ -74,18 +74,6 @@ pub(crate) struct Entry {
     pub(crate) destination: Addresses,
 }
 
-/// An address with its wildcard mask, which has few gaps.
-fn masked(word: &[u8], words: &mut Words) -> Result<Addresses, LineKind>
-    ensures { Reads (meant.masked word.now words.old) result words.new }
-{
-    let address = ip4_plain(word).ok_or(LineKind::BadAddress)?;
-    let mask = words.address(LineKind::BadMask)?;
-    if gaps(32, u64::from(mask)) > MAX_GAPS {
-        return Err(LineKind::BadMask);
-    }
-    Ok(Addresses::Under(under_mask(address, mask)))
-}
-
 /// What stands for addresses.
 fn addresses_of(groups: &[Group], words: &mut Words) -> Result<Addresses, LineKind>
     ensures { Reads (meant.addresses_of groups.now words.old) result words.new }
@@ -104,7 +92,12 @@ fn addresses_of(groups: &[Group], words: &mut Words) -> Result<Addresses, LineKi
     if word == b"object-group".as_slice() {
         return Ok(Addresses::Group(words.group(groups, b"network")?));
     }
-    masked(word, words)
+    let address = ip4_plain(word).ok_or(LineKind::BadAddress)?;
+    let mask = words.address(LineKind::BadMask)?;
+    if gaps(32, u64::from(mask)) > MAX_GAPS {
+        return Err(LineKind::BadMask);
+    }
+    Ok(Addresses::Under(under_mask(address, mask)))
 }
 
 /// A side: addresses, and ports where any are compared.

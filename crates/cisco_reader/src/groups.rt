@@ -28,14 +28,6 @@ impl<'a> Model for Line<'a> {
 
 impl<'a> Line<'a> {
     ghost use Rattle.std.specs.Prelude.{◌≡◌};
-    ghost use Rattle.text_scan.specs.Parts.{words_of};
-
-    /// A line of a number.
-    fn new(number: u32, text: &'a [u8]) -> Line<'a>
-        ensures { result ≡ record { number = number; words = words_of text.now } }
-    {
-        Line { number, text }
-    }
 
     /// Its number, from 1.
     pub(crate) fn number(&self) -> u32
@@ -83,21 +75,10 @@ impl<'a> Model for Group<'a> {
 }
 
 impl<'a> Group<'a> {
-    ghost use Rattle.std.specs.Prelude.{◌≡◌, [], Ok};
+    ghost use Rattle.std.specs.Prelude.{◌≡◌, Ok};
     ghost use Rattle.std.specs.Str.{bytes_eq};
     ghost use Rattle.cisco_reader.specs.Groups.{longer};
     ghost use Rattle.cisco_reader.specs.Read.{Becomes};
-
-    /// A group without lines.
-    fn new(alloc: Global, kind: &'a [u8], name: &'a [u8]) -> Group<'a>
-        ensures { result ≡ record { kind = kind.now; name = name.now; lines = [] } }
-    {
-        Group {
-            kind,
-            name,
-            lines: Vec::new(alloc),
-        }
-    }
 
     /// Whether it has the name.
     fn is_named(&self, name: &[u8]) -> bool
@@ -215,7 +196,11 @@ impl<'a> Groups<'a> {
             }
             None => {
                 self.inside = Some(self.groups.len());
-                self.groups.push(Group::new(self.alloc, kind, name))?;
+                self.groups.push(Group {
+                    kind,
+                    name,
+                    lines: Vec::new(self.alloc),
+                })?;
             }
         }
         Ok(())
@@ -267,7 +252,7 @@ impl<'a> Groups<'a> {
         if word == b"description".as_slice() {
             return Ok(());
         }
-        self.put(Line::new(number, text), place)
+        self.put(Line { number, text }, place)
     }
 
     /// A line of a number, from 1.

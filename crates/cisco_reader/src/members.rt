@@ -25,20 +25,6 @@ fn addresses_between(low: u32, high: u32) -> Span
     }
 }
 
-/// Both addresses of a range.
-fn range_of(words: &mut Words) -> Result<Span, LineKind>
-    ensures { Reads (meant.range_of words.old) result words.new }
-{
-    let low = words.required()?;
-    let high = words.required()?;
-    let low = ip4_plain(low).ok_or(LineKind::BadAddress)?;
-    let high = ip4_plain(high).ok_or(LineKind::BadAddress)?;
-    if low <= high {
-        return Ok(addresses_between(low, high));
-    }
-    Err(LineKind::BadAddress)
-}
-
 /// Whether the set bits of a mask stand at the left, and there are some.
 fn is_network_mask(mask: u32) -> bool
     ensures { result ≡ meant.is_network_mask mask }
@@ -61,27 +47,17 @@ fn masked_span(address: u32, mask: u32) -> Result<Span, LineKind>
     Err(LineKind::BadNetworkMask)
 }
 
-/// The addresses that agree with one in all but their last free bits.
-fn prefix_span(address: u32, free: u32) -> Span
-    requires { free ≤ 32 }
-    ensures { result ≡ meant.prefix_span address free }
-{
-    let size = power(free);
-    let low = u64::from(address) / size * size;
-    Span {
-        low,
-        high: low + (size - 1),
-    }
-}
-
-/// An address with the length of its prefix.
+/// The addresses that agree with one in as many bits as its prefix has.
 fn prefixed(address: u32, text: &[u8]) -> Result<Span, LineKind>
     ensures { result ≡ meant.prefixed address text.now }
 {
-    match number(text, 32) {
-        Some(bits) => Ok(prefix_span(address, 32 - bits as u32)),
-        None => Err(LineKind::BadNetworkMask),
-    }
+    let bits = number(text, 32).ok_or(LineKind::BadNetworkMask)?;
+    let size = power(32 - bits as u32);
+    let low = u64::from(address) / size * size;
+    Ok(Span {
+        low,
+        high: low + (size - 1),
+    })
 }
 
 /// An address with the length of its prefix after a slash, or with its mask.
@@ -122,7 +98,14 @@ fn network_member(word: &[u8], words: &mut Words) -> Result<Span, LineKind>
         return Ok(addresses_between(address, address));
     }
     if word == b"range".as_slice() {
-        return range_of(words);
+        let low = words.required()?;
+        let high = words.required()?;
+        let low = ip4_plain(low).ok_or(LineKind::BadAddress)?;
+        let high = ip4_plain(high).ok_or(LineKind::BadAddress)?;
+        if low <= high {
+            return Ok(addresses_between(low, high));
+        }
+        return Err(LineKind::BadAddress);
     }
     plain_member(word, words)
 }

@@ -132,16 +132,12 @@ impl Known {
     ghost use Rattle.cisco_reader.specs.Names as meant;
 
     /// The words, between blanks.
-    #[tactic(auto, unfolding(crate::specs::Names::compared_words, crate::specs::Names::log_words, crate::specs::Names::entry_words, crate::specs::Names::part_words))]
+    #[tactic(auto, unfolding(crate::specs::Names::log_words, crate::specs::Names::entry_words))]
     fn words(self) -> &'static [u8]
         ensures { result.now ≡ meant.words_for self }
     {
         match self {
-            Known::Compared => {
-                b"fragments fragment-type dscp precedence tos time-range option ttl reflect \
-                evaluate packet-length vlan routing dest-option mobility hbh destopts authen \
-                flow-label ack fin psh rst syn urg established match-all match-any tcp-flags-mask"
-            }
+            Known::Compared => compared_words(),
             Known::Log => b"log log-input",
             Known::NumberedEntry => b"permit deny remark dynamic",
             Known::Part => part_words(),
@@ -163,6 +159,17 @@ impl Known {
     {
         is_among(word, self.words())
     }
+}
+
+/// The words that begin a comparison of an entry that a rule can't say.
+#[tactic(auto, unfolding(crate::specs::Names::compared_words))]
+fn compared_words() -> &'static [u8]
+    ensures { result.now ≡ meant.words_for Known.Compared }
+{
+    b"fragments fragment-type dscp precedence tos time-range option ttl reflect evaluate \
+    packet-length vlan routing dest-option mobility hbh destopts authen flow-label ack fin \
+    psh rst syn urg established match-all match-any tcp-flags-mask"
+        .as_slice()
 }
 
 /// The words that begin parts of a configuration without entries of lists.

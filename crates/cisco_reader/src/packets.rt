@@ -1,9 +1,9 @@
 //! A configuration of IOS → the rules of one of its lists.
 
-ghost use Rattle.std.specs.Prelude.{◌≡◌, ◌≤◌, ◌⊎◌, length, nat_lt, IfOk, Ok, Err};
+ghost use Rattle.std.specs.Prelude.{◌≡◌, ◌≤◌, ◌⊎◌, length, IfOk, Ok, Err};
 ghost use Rattle.cisco_reader.specs.Groups.{groups_of};
 ghost use Rattle.cisco_reader.specs.Lists.{entries_of};
-ghost use Rattle.cisco_reader.specs.Packets.{list_of, max_list};
+ghost use Rattle.cisco_reader.specs.Packets.{list_of};
 ghost use Rattle.cisco_reader.specs.Read.{Gives};
 ghost use Rattle.cisco_reader.specs.declared.fault.LineFault.{LineFault};
 
@@ -72,13 +72,6 @@ fn read_entries(
     }
 }
 
-/// Whether a configuration has more bytes than it may have.
-fn is_too_long(bytes: &[u8]) -> bool
-    ensures { result ≡ nat_lt max_list (length bytes.now) }
-{
-    bytes.len() > MAX_LIST
-}
-
 /// The rules of the list of a name, or why it isn't read.
 fn list_rules(
     alloc: Global,
@@ -88,7 +81,7 @@ fn list_rules(
 ) -> Result<Vec<ChainRule>, CiscoFault>
     ensures { Gives (list_of answers name.now bytes.now) (λ rules. rules.items) result }
 {
-    if is_too_long(bytes) {
+    if bytes.len() > MAX_LIST {
         return Err(line_fault(0, LineKind::FileTooLong));
     }
     let groups = read_groups(alloc, bytes)?;

@@ -28,7 +28,7 @@ impl Model for Ports {
 }
 
 impl Ports {
-    ghost use Rattle.std.specs.Prelude.{◌≡◌, ◌≤◌, ◌<◌, ℕ, List, [], ◌∷◌, ◌++◌, nat_le, length};
+    ghost use Rattle.std.specs.Prelude.{◌≡◌, ◌≤◌, ◌<◌, ℕ, List, [], ◌∷◌, ◌++◌, length};
     ghost use Rattle.cisco_reader.specs.PortList.{ended, max_ports, ports_above, ports_below, ports_between};
     ghost use Rattle.cisco_reader.specs.Read.{Reads};
 
@@ -77,13 +77,6 @@ impl Ports {
         ensures { result.now ≡ self.now }
     {
         &self.spans[..self.count]
-    }
-
-    /// Whether there is no room for one more.
-    pub(crate) fn is_full(&self) -> bool
-        ensures { result ≡ nat_le max_ports (length self.now) }
-    {
-        self.spans().len() >= MAX_PORTS
     }
 
     /// Puts a span after the others.

@@ -3,7 +3,7 @@
 use crate::fault::LineKind;
 use crate::groups::{Group, place_for};
 use crate::names::{Known, number, port};
-use crate::port_list::Ports;
+use crate::port_list::{MAX_PORTS, Ports};
 use crate::services::{Operator, operator_named};
 use crate::wildcard::ip4_plain;
 use list_chains::Span;
@@ -144,7 +144,7 @@ impl<'a> Words<'a> {
                 self.left = left;
                 return ports.ended();
             };
-            if ports.is_full() {
+            if ports.spans().len() >= MAX_PORTS {
                 return Err(LineKind::ManyPorts);
             }
             ports.push(Span {
