@@ -166,7 +166,7 @@ impl<'p> Model for Pairs<'p> {
 }
 
 impl<'p> Pairs<'p> {
-    ghost use Rattle.std.specs.Prelude.{◌≡◌, ◌++◌, flat_map, IfOk, OnOk};
+    ghost use Rattle.std.specs.Prelude.{◌≡◌, ◌++◌, IfOk, OnOk};
     ghost use Rattle.cisco_reader.specs.Packets as meant;
 
     /// Whether there are too many of them, alone or with some services.
@@ -203,22 +203,6 @@ impl<'p> Pairs<'p> {
         let left = left_out(alloc, service)?;
         put_boxes(alloc, self.answer, &left, &kept, into)
     }
-
-    /// Puts the rules of services.
-    fn put_services(
-        &self,
-        alloc: Global,
-        services: &[Service],
-        into: &mut Vec<ChainRule>,
-    ) -> Result<(), AllocError>
-        ensures { OnOk result (into.new.items
-            ≡ into.old.items ++ flat_map (meant.service_rules self.now) services.now) }
-    {
-        for service in services {
-            self.put_service(alloc, service, into)?;
-        }
-        Ok(())
-    }
 }
 
 /// The answer of an entry.
@@ -246,7 +230,9 @@ fn put_paired(
     if pairs.are_many(services) {
         return Err(line_fault(line, LineKind::LargeGroup));
     }
-    pairs.put_services(alloc, services, rules)?;
+    for service in services {
+        pairs.put_service(alloc, service, rules)?;
+    }
     Ok(())
 }
 

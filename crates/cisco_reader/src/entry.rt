@@ -143,26 +143,19 @@ fn option_fault(span: Span, word: &[u8]) -> LineKind
     }
 }
 
-/// The fault of what stands after `log`, where one word may.
-fn log_fault(span: Span, words: &mut Words) -> Option<LineKind>
-    ensures { result ≡ meant.log_fault span words.old }
+/// The fault of what stands after the addresses, if it isn't a log with at most one word.
+fn options_fault(span: Span, words: &mut Words) -> Option<LineKind>
+    ensures { result ≡ meant.options_fault span words.old }
 {
+    let word = words.next()?;
+    if !Known::Log.has(word) {
+        return Some(option_fault(span, word));
+    }
     let word = words.next()?;
     if !words.is_empty() || Known::Compared.has(word) || has_types(span) {
         return Some(option_fault(span, word));
     }
     None
-}
-
-/// The fault of what stands after the addresses, if it isn't a log.
-fn options_fault(span: Span, words: &mut Words) -> Option<LineKind>
-    ensures { result ≡ meant.options_fault span words.old }
-{
-    let word = words.next()?;
-    if Known::Log.has(word) {
-        return log_fault(span, words);
-    }
-    Some(option_fault(span, word))
 }
 
 /// The services of an entry, if what it begins with may have such ports.

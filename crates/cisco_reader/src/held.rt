@@ -1,8 +1,8 @@
 //! What groups hold: the lines of their members, and what they stand for.
 
-ghost use Rattle.std.specs.Prelude.{◌≡◌, ◌<◌, ◌++◌, length, codes, IfSome, MatchResult, OnOk, Ok, Err};
+ghost use Rattle.std.specs.Prelude.{◌≡◌, ◌<◌, ◌++◌, length, IfSome, MatchResult, OnOk, Ok, Err};
 ghost use Rattle.cisco_reader.specs.Held as meant;
-ghost use Rattle.cisco_reader.specs.Read.{Gives, is_next};
+ghost use Rattle.cisco_reader.specs.Read.{Gives};
 ghost use Rattle.cisco_reader.specs.Services.{service_of_words};
 
 use crate::entry::{Addresses, Services};
@@ -108,19 +108,14 @@ fn all_opened<'a>(
     Ok(into)
 }
 
-/// Whether a line names a group.
-fn is_naming(line: &Line) -> bool
-    ensures { result ≡ is_next (codes "group-object") line.now.words }
-{
-    line.words().is_next(b"group-object")
-}
-
 /// The place of the first line that names a group.
 fn first_naming(lines: &[Line]) -> Option<usize>
     ensures place { result ≡ meant.first_naming lines.now }
     ensures within { IfSome result (λ place. place < length lines.now) }
 {
-    lines.iter().position(|line| is_naming(line))
+    lines
+        .iter()
+        .position(|line| line.words().is_next(b"group-object"))
 }
 
 /// The number of the line of a place.
@@ -177,27 +172,16 @@ fn opened_times<'a>(
     Ok(made)
 }
 
-/// Puts the addresses of a member.
-fn put_network(into: &mut Vec<Span>, line: &Line) -> Result<(), CiscoFault>
-    ensures { Gives (meant.with_member meant.network_of_words into.old.items line.now)
-        (λ none. into.new.items) result }
-{
-    match network_of_words(&mut line.words()) {
-        Ok(span) => {
-            into.push(span)?;
-            Ok(())
-        }
-        Err(kind) => Err(line_fault(line.number(), kind)),
-    }
-}
-
 /// The addresses of members.
 fn networks(alloc: Global, lines: &[Line]) -> Result<Vec<Span>, CiscoFault>
     ensures { Gives (meant.members meant.network_of_words lines.now) (λ spans. spans.items) result }
 {
     let mut into = Vec::new(alloc);
     for line in lines {
-        put_network(&mut into, line)?;
+        match network_of_words(&mut line.words()) {
+            Ok(span) => into.push(span)?,
+            Err(kind) => return Err(line_fault(line.number(), kind)),
+        }
     }
     Ok(into)
 }
@@ -218,20 +202,6 @@ pub(crate) fn address_spans(
             let lines = held(alloc, groups, b"network".as_slice(), number, place)?;
             networks(alloc, &lines)
         }
-    }
-}
-
-/// Puts the service of a member.
-fn put_service(into: &mut Vec<Service>, line: &Line) -> Result<(), CiscoFault>
-    ensures { Gives (meant.with_member service_of_words into.old.items line.now)
-        (λ none. into.new.items) result }
-{
-    match service_of_words(&mut line.words()) {
-        Ok(service) => {
-            into.push(service)?;
-            Ok(())
-        }
-        Err(kind) => Err(line_fault(line.number(), kind)),
     }
 }
 
@@ -256,7 +226,10 @@ fn member_services(alloc: Global, lines: &[Line]) -> Result<Vec<Service>, CiscoF
 {
     let mut into = Vec::new(alloc);
     for line in lines {
-        put_service(&mut into, line)?;
+        match service_of_words(&mut line.words()) {
+            Ok(service) => into.push(service)?,
+            Err(kind) => return Err(line_fault(line.number(), kind)),
+        }
     }
     Ok(into)
 }

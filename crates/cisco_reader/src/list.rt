@@ -80,20 +80,6 @@ impl<'g, 'a> List<'g, 'a> {
         }
     }
 
-    /// Puts an entry at a place, where no other has its number.
-    fn put(&mut self, loose: Loose, placed: Placed, place: usize) -> Result<(), Stop>
-        requires { place ≤ length self.old.entries }
-        ensures { Becomes (meant.with_place self.old loose placed place) result self.new }
-    {
-        if has_number(placed.sequence, &self.entries[place..]) {
-            return Err(LineKind::SequenceTwice.into());
-        }
-        self.loose = loose;
-        self.last = self.last.max(placed.sequence);
-        self.entries.insert(place, placed)?;
-        Ok(())
-    }
-
     /// An entry of a line, which may have a number.
     fn add_entry(&mut self, line: u32, number: Option<u64>, entry: Entry) -> Result<(), Stop>
         ensures { Becomes (meant.with_entry line number self.old entry) result self.new }
@@ -101,12 +87,18 @@ impl<'g, 'a> List<'g, 'a> {
         let loose = loose_after(self.loose, number)?;
         let sequence = sequence_after(self.last, number)?;
         let place = place_of(sequence, &self.entries);
+        if has_number(sequence, &self.entries[place..]) {
+            return Err(LineKind::SequenceTwice.into());
+        }
+        self.loose = loose;
+        self.last = self.last.max(sequence);
         let placed = Placed {
             sequence,
             line,
             entry,
         };
-        self.put(loose, placed, place)
+        self.entries.insert(place, placed)?;
+        Ok(())
     }
 
     /// A line of the list.
