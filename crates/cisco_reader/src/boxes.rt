@@ -166,7 +166,7 @@ impl<'p> Model for Pairs<'p> {
 }
 
 impl<'p> Pairs<'p> {
-    ghost use Rattle.std.specs.Prelude.{◌≡◌, ◌++◌, IfOk, OnOk};
+    ghost use Rattle.std.specs.Prelude.{◌≡◌, IfOk};
     ghost use Rattle.cisco_reader.specs.Packets as meant;
 
     /// Whether there are too many of them, alone or with some services.
@@ -187,21 +187,6 @@ impl<'p> Pairs<'p> {
         kept = narrowed(alloc, 2, self.destinations, &kept)?;
         kept = narrowed(alloc, 3, kept_ports(&service.source), &kept)?;
         narrowed(alloc, 4, kept_ports(&service.destination), &kept)
-    }
-
-    /// Puts the rules of a service.
-    fn put_service(
-        &self,
-        alloc: Global,
-        service: &Service,
-        into: &mut Vec<ChainRule>,
-    ) -> Result<(), AllocError>
-        ensures { OnOk result
-            (into.new.items ≡ into.old.items ++ meant.service_rules self.now service.now) }
-    {
-        let kept = self.kept(alloc, service)?;
-        let left = left_out(alloc, service)?;
-        put_boxes(alloc, self.answer, &left, &kept, into)
     }
 }
 
@@ -231,7 +216,9 @@ fn put_paired(
         return Err(line_fault(line, LineKind::LargeGroup));
     }
     for service in services {
-        pairs.put_service(alloc, service, rules)?;
+        let kept = pairs.kept(alloc, service)?;
+        let left = left_out(alloc, service)?;
+        put_boxes(alloc, pairs.answer, &left, &kept, rules)?;
     }
     Ok(())
 }

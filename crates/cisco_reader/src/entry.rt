@@ -11,7 +11,7 @@ use crate::services::{
     ANY_PROTOCOL, PortPart, Protocols, Service, are_compared, has_types, port_part, protocols_of,
     service_of,
 };
-use crate::wildcard::{Wildcard, gaps, ip4_plain, under_mask};
+use crate::wildcard::{Wildcard, gaps, ip4_plain};
 use crate::words::Words;
 use list_chains::Span;
 
@@ -94,10 +94,15 @@ fn addresses_of(groups: &[Group], words: &mut Words) -> Result<Addresses, LineKi
     }
     let address = ip4_plain(word).ok_or(LineKind::BadAddress)?;
     let mask = words.address(LineKind::BadMask)?;
-    if gaps(32, u64::from(mask)) > MAX_GAPS {
+    let address = u64::from(address);
+    let free = u64::from(mask);
+    if gaps(32, free) > MAX_GAPS {
         return Err(LineKind::BadMask);
     }
-    Ok(Addresses::Under(under_mask(address, mask)))
+    Ok(Addresses::Under(Wildcard {
+        base: address ^ (address & free),
+        free,
+    }))
 }
 
 /// A side: addresses, and ports where any are compared.

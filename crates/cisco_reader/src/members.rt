@@ -25,20 +25,12 @@ fn addresses_between(low: u32, high: u32) -> Span
     }
 }
 
-/// Whether the set bits of a mask stand at the left, and there are some.
-fn is_network_mask(mask: u32) -> bool
-    ensures { result ≡ meant.is_network_mask mask }
-{
-    let free = ALL_ADDRESSES - u64::from(mask);
-    free & (free + 1) == 0 && !(mask == 0)
-}
-
 /// The addresses of a network, in which the bits after the mask are 0.
 fn masked_span(address: u32, mask: u32) -> Result<Span, LineKind>
     ensures { result ≡ meant.masked_span address mask }
 {
     let free = ALL_ADDRESSES - u64::from(mask);
-    if is_network_mask(mask) && u64::from(address) & free == 0 {
+    if free & (free + 1) == 0 && !(mask == 0) && u64::from(address) & free == 0 {
         return Ok(Span {
             low: u64::from(address),
             high: u64::from(address) + free,

@@ -12,19 +12,12 @@ pub(crate) const MAX_PORT: u64 = 65_535;
 /// The greatest number of a protocol.
 pub(crate) const MAX_PROTOCOL: u64 = 255;
 
-/// Whether a word has a byte.
-fn is_filled(word: &[u8]) -> bool
-    ensures { result ≡ meant.is_filled word.now }
-{
-    !word.is_empty()
-}
-
 /// The number that a word spells in decimal, if it is at most so great.
 pub(crate) fn number(word: &[u8], greatest: u64) -> Option<u64>
     ensures number { result ≡ meant.number_of greatest word.now }
     ensures bound { IfSome result (λ number. number ≤ greatest) }
 {
-    if !is_filled(word) {
+    if word.is_empty() {
         return None;
     }
     let number = digits_value(word, 10)?;

@@ -77,16 +77,6 @@ fn compared(once: bool, operator: Operator, words: &mut Words) -> Result<Ports, 
     }
 }
 
-/// Whether the ports of a comparison are left out.
-fn is_negated(operator: Operator) -> bool
-    ensures { result ≡ meant.is_negated operator }
-{
-    match operator {
-        Operator::NotEqual => true,
-        Operator::Equal | Operator::Greater | Operator::Less | Operator::Range => false,
-    }
-}
-
 /// The ports after a comparison, with what it is.
 fn with_operator(
     once: bool,
@@ -96,7 +86,7 @@ fn with_operator(
     ensures { Reads (meant.with_operator once operator words.old) result words.new }
 {
     let ports = compared(once, operator, words)?;
-    let negated = is_negated(operator);
+    let negated = matches!(operator, Operator::NotEqual);
     Ok(Some(PortPart { negated, ports }))
 }
 

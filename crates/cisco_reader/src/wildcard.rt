@@ -2,7 +2,7 @@
 
 ghost use Rattle.std.specs.Prelude.{◌≡◌, ◌≤◌, ◌<◌, ◌^◌, ◌++◌, IfOk, OnOk};
 ghost use Rattle.cisco_reader.specs.Wildcard.{counts, gaps, ip4_plain, is_free, ones, spans_from};
-ghost use Rattle.cisco_reader.specs.Wildcard.{spans_under, under_mask};
+ghost use Rattle.cisco_reader.specs.Wildcard.{spans_under};
 
 use list_chains::Span;
 use std::alloc::{AllocError, Global};
@@ -23,18 +23,6 @@ pub(crate) fn ip4_plain(text: &[u8]) -> Option<u32>
     let mut printed = [0; 40];
     let len = put_ip4(address, &mut printed);
     (text == &printed[..len]).then_some(address)
-}
-
-/// The addresses that agree with an address where the mask has no bit.
-pub(crate) fn under_mask(address: u32, mask: u32) -> Wildcard
-    ensures { result ≡ under_mask address mask }
-{
-    let address = u64::from(address);
-    let free = u64::from(mask);
-    Wildcard {
-        base: address ^ (address & free),
-        free,
-    }
 }
 
 /// The number of the last bits, all set.
