@@ -1,7 +1,6 @@
-pub mod BoxSteps
 pub mod Counting
-pub mod Elements
-pub mod Looked
-pub mod Steps
-pub mod Views
+pub mod Folding
 pub mod Texts
+pub mod Views
+pub mod Parts
+pub mod Elements

@@ -1,7 +1,7 @@
--- Comparisons with what is assumed of packets (nft(8), "META EXPRESSIONS" and "CONNTRACK
--- EXPRESSIONS"): each is true of all packets or of none.
-use Rattle.std.specs.Prelude.{ℕ, ◌==◌, Bool, false, not, ◌&&◌, is_some, if◌then◌else◌, codes}
-use Rattle.std.specs.Prelude.{List, [], ◌∷◌, Option, Some, None, Result, Err}
+-- Comparisons with what is known of packets beside their bytes, or assumed (nft(8), "META
+-- EXPRESSIONS" and "CONNTRACK EXPRESSIONS"): each is true of all packets or of none.
+use Rattle.std.specs.Prelude.{ℕ, ◌==◌, Bool, not, ◌&&◌, is_some, if◌then◌else◌, codes}
+use Rattle.std.specs.Prelude.{List, Option, Some, None, option_and_then, Result, Ok, Err}
 use Rattle.std.specs.List.{list_all, list_any}
 use Rattle.std.specs.Option.{option_map}
 use Rattle.json.specs.Json.{Json}
@@ -12,21 +12,29 @@ use Rattle.iptables_reader.specs.Assumed.{state_named, value_in}
 use Rattle.iptables_reader.specs.Ports.{comma}
 use Rattle.nft_reader.specs.declared.fault.RuleKind.{RuleKind}
 use Rattle.nft_reader.specs.declared.fault.RuleKind.TheVariants as kind
+use Rattle.nft_reader.specs.declared.compared.Fact.{Fact}
+use Rattle.nft_reader.specs.declared.compared.Fact.TheVariants as fact
 use Rattle.nft_reader.specs.declared.compared.Naming.{Naming}
 use Rattle.nft_reader.specs.declared.compared.Naming.TheVariants as naming
 use Rattle.nft_reader.specs.declared.compared.Operator.{Operator}
 use Rattle.nft_reader.specs.declared.compared.Operator.TheVariants as operator
 use Rattle.nft_reader.specs.declared.compared.Way.{Way}
 use Rattle.nft_reader.specs.declared.compared.Way.TheVariants as way
-use Rattle.nft_reader.specs.Results.{or_cause}
+use Rattle.nft_reader.specs.Compared.{is_ip4, is_of}
+use Rattle.nft_reader.specs.Known.{Question}
 use Rattle.nft_reader.specs.Sets.{at_name}
-use Rattle.nft_reader.specs.Shapes.{items_of}
+use Rattle.nft_reader.specs.Shapes.{listed_values}
+use Rattle.nft_reader.specs.Stops.{◌>>=◌, or_cant, or_cause}
 use Rattle.nft_reader.specs.Values.{elements_of}
 
--- a text passes a test, if there is one
-abbrev pub text_is : (List ℕ → Bool) → Option (List ℕ) → Bool
-text_is test None = false
-text_is test (Some text) = test text
+-- a text, if there is one, or else `/`, which names no interface and no state
+abbrev pub text_or : Option (List ℕ) → List ℕ
+text_or None = codes "/"
+text_or (Some text) = text
+
+-- the word of a value
+abbrev pub word_of : Json → List ℕ
+word_of value = text_or (as_str value)
 
 -- ---- interfaces
 
@@ -51,19 +59,11 @@ is_interface_word manner word =
 
 -- a value names interfaces
 abbrev pub is_interface_value : Naming → Json → Bool
-is_interface_value manner value = text_is (is_interface_word manner) (as_str value)
+is_interface_value manner value = is_interface_word manner (word_of value)
 
 -- a value names the interface
 abbrev pub meets_value : List ℕ → Json → Bool
-meets_value name value = text_is (λ word. meets_interface star word name) (as_str value)
-
--- all values name interfaces
-abbrev pub are_interfaces : Naming → List Json → Bool
-are_interfaces manner values = list_all (is_interface_value manner) values
-
--- one of the values names the interface
-abbrev pub has_interface : List ℕ → List Json → Bool
-has_interface name values = list_any (meets_value name) values
+meets_value name value = meets_interface star (word_of value) name
 
 -- the key of the interface that packets come by, and of the one that they leave by
 abbrev pub way_key : Way → List ℕ
@@ -75,44 +75,22 @@ abbrev pub interface_of : Way → List ℕ → Option (List ℕ)
 interface_of which assumed = value_in (way_key which) (parts_of comma assumed)
 
 -- packets have an interface that the values name, or a cause where that isn't known
-abbrev pub interface_met : List ℕ → Way → Naming → Option (List Json) → Result Bool RuleKind
-interface_met assumed which manner None = Err kind.CantSay
-interface_met assumed which manner (Some values) =
-    if are_interfaces manner values
-    then or_cause kind.NeedsInterface
-    (option_map (λ name. has_interface name values) (interface_of which assumed))
+abbrev pub interface_met : List ℕ → Way → Naming → List Json → Result Bool RuleKind
+interface_met assumed which manner values =
+    if list_all (is_interface_value manner) values
+    then (or_cause kind.NeedsInterface (interface_of which assumed) >>= λ name.
+    Ok (list_any (meets_value name) values))
     else Err kind.CantSay
 
 -- ---- states of connections
 
 -- a value is a state
 abbrev pub is_state_value : Json → Bool
-is_state_value value = text_is (λ name. is_some (state_named name)) (as_str value)
-
--- a word is the state of the number
-abbrev pub is_that_state : ℕ → List ℕ → Bool
-is_that_state number name = is_number number (state_named name)
+is_state_value value = is_some (state_named (word_of value))
 
 -- a value is the state of the number
 abbrev pub is_that_value : ℕ → Json → Bool
-is_that_value number value = text_is (is_that_state number) (as_str value)
-
--- all values are states
-abbrev pub are_states : List Json → Bool
-are_states values = list_all is_state_value values
-
--- one of the values is the state of the number
-abbrev pub has_state : ℕ → List Json → Bool
-has_state number values = list_any (is_that_value number) values
-
--- the values of a list by its items, if it is one, or else the value itself
-abbrev pub values_or : Json → Option (List Json) → List Json
-values_or value None = value ∷ []
-values_or value (Some values) = values
-
--- the values of a list, or else the value itself
-abbrev pub listed_values : Json → List Json
-listed_values value = values_or value (items_of value)
+is_that_value number value = is_number number (state_named (word_of value))
 
 -- the states of the right side: of a list after the tests of bits, and else of a set
 abbrev pub state_values : Operator → Json → Option (List Json)
@@ -122,10 +100,20 @@ state_values operator.Equal right = elements_of right
 state_values operator.Unequal right = elements_of right
 
 -- the connection has one of the states, or a cause where that isn't known
-abbrev pub state_met : List ℕ → Option (List Json) → Result Bool RuleKind
-state_met assumed None = Err kind.CantSay
-state_met assumed (Some values) =
-    if are_states values
-    then or_cause kind.NeedsState
-    (option_map (λ number. has_state number values) (assumed_state assumed))
+abbrev pub state_met : List ℕ → List Json → Result Bool RuleKind
+state_met assumed values =
+    if list_all is_state_value values
+    then (or_cause kind.NeedsState (assumed_state assumed) >>= λ number.
+    Ok (list_any (is_that_value number) values))
     else Err kind.CantSay
+
+-- ---- all of them
+
+-- a comparison with the right side is true, or a cause where that isn't known
+abbrev pub is_met : Question → Fact → Operator → Json → Result Bool RuleKind
+is_met question fact.Nfproto compares right =
+    or_cant (option_map (is_of question.asked.family) (option_and_then is_ip4 (as_str right)))
+is_met question (fact.Interface which manner) compares right =
+    or_cant (elements_of right) >>= interface_met question.assumed which manner
+is_met question fact.State compares right =
+    or_cant (state_values compares right) >>= state_met question.assumed

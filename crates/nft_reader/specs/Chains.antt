@@ -6,7 +6,6 @@ use Rattle.std.specs.List.{position_from}
 use Rattle.std.specs.Str.{bytes_eq}
 use Rattle.list_chains.specs.declared.span.Span.{Span}
 use Rattle.list_chains.specs.Chains.{ListRule}
-use Rattle.nft_reader.specs.declared.chain.Owner.{Owner}
 use Rattle.nft_reader.specs.declared.fault.RuleFault.{RuleFault}
 use Rattle.nft_reader.specs.declared.fault.StartFault.{StartFault}
 use Rattle.nft_reader.specs.declared.fault.StartFault.TheVariants.{NoStart, ManyStarts}
@@ -16,11 +15,6 @@ pub record Names : Type 0 where
   pub family : List ℕ
   pub table : List ℕ
   pub name : List ℕ
-
--- the same of a chain that is asked for
-abbrev pub names_of : Owner → Names
-names_of owner =
-    record { family = owner.family.now; table = owner.table.now; name = owner.name.now }
 
 -- a chain: its name, the answer of its policy if it has one, its rules, and those of them that no
 -- rule file says

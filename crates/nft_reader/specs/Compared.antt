@@ -5,137 +5,39 @@ use Rattle.std.specs.Prelude.{List, Option, Some, None, option_and_then}
 use Rattle.std.specs.Option.{option_map}
 use Rattle.std.specs.Str.{bytes_eq}
 use Rattle.json.specs.Json.{Json}
-use Rattle.json.specs.Find.{as_str, get}
+use Rattle.json.specs.Find.{get}
+use Rattle.json.specs.Value.{value_view}
 use Rattle.field_defs.specs.declared.field.Family.{Family}
 use Rattle.field_defs.specs.declared.field.Family.TheVariants as family
 use Rattle.iptables_reader.specs.declared.packets.End.TheVariants as end
 use Rattle.iptables_reader.specs.declared.packets.Field.{Field}
 use Rattle.iptables_reader.specs.declared.packets.Field.TheVariants as field
+use Rattle.nft_reader.specs.declared.compared.Holders.{Holders}
+use Rattle.nft_reader.specs.declared.compared.Holders.TheVariants as holders
 use Rattle.nft_reader.specs.declared.compared.Left.{Left}
 use Rattle.nft_reader.specs.declared.compared.Left.TheVariants as left
+use Rattle.nft_reader.specs.declared.compared.Fact.{Fact}
+use Rattle.nft_reader.specs.declared.compared.Fact.TheVariants as fact
 use Rattle.nft_reader.specs.declared.compared.Naming.TheVariants as naming
 use Rattle.nft_reader.specs.declared.compared.Operator.{Operator}
 use Rattle.nft_reader.specs.declared.compared.Operator.TheVariants as operator
+use Rattle.nft_reader.specs.declared.compared.Part.TheVariants as part
+use Rattle.nft_reader.specs.declared.compared.Sides.{Sides}
 use Rattle.nft_reader.specs.declared.compared.Way.TheVariants as way
 use Rattle.nft_reader.specs.Shapes.{len_of, only, text_in}
 use Rattle.nft_reader.specs.Values.{ported_named}
 
--- an address of the header
-abbrev pub address_field : List ℕ → Option Left
-address_field name =
-    if bytes_eq name (codes "saddr") then Some (left.Address end.Source)
-    else (if bytes_eq name (codes "daddr") then Some (left.Address end.Destination) else None)
+-- ---- families
 
--- a field of the header of IPv4
-abbrev pub ip4_field : List ℕ → Option Left
-ip4_field name =
-    if bytes_eq name (codes "protocol") then Some (left.Plain field.Protocol)
-    else address_field name
+-- what tables and headers of a family are called
+abbrev pub own_name : Family → List ℕ
+own_name family.Ip4 = codes "ip"
+own_name family.Ip6 = codes "ip6"
 
--- the ports of one side
-abbrev pub port_field : List ℕ → Option Field
-port_field name =
-    if bytes_eq name (codes "sport") then Some field.SourcePorts
-    else (if bytes_eq name (codes "dport") then Some field.DestinationPorts else None)
-
--- the ports of a protocol, or with `th` of whatever protocol a packet has
-abbrev pub ports_of : List ℕ → List ℕ → Option Left
-ports_of protocol name =
-    if bytes_eq protocol (codes "th") then option_map left.AnyPorts (port_field name)
-    else option_and_then (λ number. option_map (left.Ports number) (port_field name))
-    (ported_named protocol)
-
--- a field of a header, of IPv4 packets
-abbrev pub ip4_payload : List ℕ → List ℕ → Option Left
-ip4_payload protocol name =
-    if bytes_eq protocol (codes "ip") then ip4_field name
-    else (if bytes_eq protocol (codes "ip6") then Some left.OtherFamily else ports_of protocol name)
-
--- the same of IPv6 packets
-abbrev pub ip6_payload : List ℕ → List ℕ → Option Left
-ip6_payload protocol name =
-    if bytes_eq protocol (codes "ip6") then address_field name
-    else (if bytes_eq protocol (codes "ip") then Some left.OtherFamily else ports_of protocol name)
-
--- a field of a header
-abbrev pub payload_field : Family → List ℕ → List ℕ → Option Left
-payload_field family.Ip4 protocol name = ip4_payload protocol name
-payload_field family.Ip6 protocol name = ip6_payload protocol name
-
--- what a comparison of a header compares
-abbrev pub payload_of : Family → Json → Option Left
-payload_of family said =
-    if len_of said == 2
-    then option_and_then (λ protocol.
-    option_and_then (payload_field family protocol) (text_in (codes "field") said))
-    (text_in (codes "protocol") said)
-    else None
-
--- an interface
-abbrev pub interface_key : List ℕ → Option Left
-interface_key key =
-    if bytes_eq key (codes "iif") then Some (left.Interface way.In naming.Index)
-    else (if bytes_eq key (codes "iifname") then Some (left.Interface way.In naming.Name)
-    else (if bytes_eq key (codes "oif") then Some (left.Interface way.Out naming.Index)
-    else (if bytes_eq key (codes "oifname") then Some (left.Interface way.Out naming.Name)
-    else None)))
-
--- what is known of a packet beside its bytes
-abbrev pub meta_key : List ℕ → Option Left
-meta_key key =
-    if bytes_eq key (codes "l4proto") then Some (left.Plain field.Protocol)
-    else (if bytes_eq key (codes "nfproto") then Some left.Nfproto else interface_key key)
-
--- what a comparison of that compares
-abbrev pub meta_of : Json → Option Left
-meta_of said =
-    if len_of said == 1 then option_and_then meta_key (text_in (codes "key") said) else None
-
--- what is known of a connection
-abbrev pub connection_key : List ℕ → Option Left
-connection_key key = if bytes_eq key (codes "state") then Some left.State else None
-
--- what a comparison of that compares
-abbrev pub connection_of : Json → Option Left
-connection_of said =
-    if len_of said == 1 then option_and_then connection_key (text_in (codes "key") said) else None
-
--- the left side of a comparison by its name
-abbrev pub left_named : Family → List ℕ → Json → Option Left
-left_named family name said =
-    if bytes_eq name (codes "payload") then payload_of family said
-    else (if bytes_eq name (codes "meta") then meta_of said
-    else (if bytes_eq name (codes "ct") then connection_of said else None))
-
--- the left side of a comparison
-abbrev pub left_of : Family → Json → Option Left
-left_of family value = option_and_then (λ found. left_named family found.0 found.1) (only value)
-
--- the operator of a comparison: `in` and `!` test bits
-abbrev pub operator_named : List ℕ → Option Operator
-operator_named name =
-    if bytes_eq name (codes "==") then Some operator.Equal
-    else (if bytes_eq name (codes "!=") then Some operator.Unequal
-    else (if bytes_eq name (codes "in") then Some operator.In
-    else (if bytes_eq name (codes "!") then Some operator.NotIn else None)))
-
--- the operator that a comparison has
-abbrev pub operator_of : Json → Option Operator
-operator_of said = option_and_then operator_named (text_in (codes "op") said)
-
--- whether a comparison for equality is turned
-abbrev pub is_negated : Operator → Option Bool
-is_negated operator.Equal = Some false
-is_negated operator.Unequal = Some true
-is_negated operator.In = None
-is_negated operator.NotIn = None
-
--- whether a comparison of states is turned, of which each is one bit
-abbrev pub is_turned : Operator → Bool
-is_turned operator.Equal = false
-is_turned operator.Unequal = true
-is_turned operator.In = false
-is_turned operator.NotIn = true
+-- what those of the other one are called
+abbrev pub other_name : Family → List ℕ
+other_name family.Ip4 = codes "ip6"
+other_name family.Ip6 = codes "ip"
 
 -- whether a family of packets is IPv4
 abbrev pub is_ip4 : List ℕ → Option Bool
@@ -148,23 +50,153 @@ abbrev pub is_of : Family → Bool → Bool
 is_of family.Ip4 is4 = is4
 is_of family.Ip6 is4 = not is4
 
--- the family of packets is the one that a value names
-abbrev pub family_met : Family → Json → Option Bool
-family_met family value = option_map (is_of family) (option_and_then is_ip4 (as_str value))
+-- ---- the left side
+
+-- the protocol, as a field of the header of IPv4
+abbrev pub protocol_field : Family → List ℕ → Option Left
+protocol_field family.Ip4 name =
+    if bytes_eq name (codes "protocol")
+    then Some (left.Header (part.Number field.Protocol) holders.All) else None
+protocol_field family.Ip6 name = None
+
+-- a field of the header of a family
+abbrev pub own_field : Family → List ℕ → Option Left
+own_field family name =
+    if bytes_eq name (codes "saddr") then Some (left.Header (part.Address end.Source) holders.All)
+    else (if bytes_eq name (codes "daddr")
+    then Some (left.Header (part.Address end.Destination) holders.All)
+    else protocol_field family name)
+
+-- the ports of one side
+abbrev pub port_field : List ℕ → Option Field
+port_field name =
+    if bytes_eq name (codes "sport") then Some field.SourcePorts
+    else (if bytes_eq name (codes "dport") then Some field.DestinationPorts else None)
+
+-- the packets of a protocol, or with `th` of whatever protocol that has ports
+abbrev pub holders_named : List ℕ → Option Holders
+holders_named protocol =
+    if bytes_eq protocol (codes "th") then Some holders.Ported
+    else option_map holders.Protocol (ported_named protocol)
+
+-- their ports
+abbrev pub ports_of : List ℕ → List ℕ → Option Left
+ports_of protocol name =
+    option_and_then (λ which. option_map (left.Header (part.Number which)) (holders_named protocol))
+    (port_field name)
+
+-- a field of a header
+abbrev pub header_field : Family → List ℕ → List ℕ → Option Left
+header_field family protocol name =
+    if bytes_eq protocol (other_name family) then Some left.OtherFamily
+    else (if bytes_eq protocol (own_name family) then own_field family name
+    else ports_of protocol name)
+
+-- what a comparison of a header compares
+abbrev pub payload_of : Family → Json → Option Left
+payload_of family said =
+    if len_of said == 2
+    then option_and_then (λ protocol.
+    option_and_then (header_field family protocol) (text_in (codes "field") said))
+    (text_in (codes "protocol") said)
+    else None
+
+-- the key of what is known beside the bytes of a packet, if nothing stands beside it
+abbrev pub key_in : Json → Option (List ℕ)
+key_in said = if len_of said == 1 then text_in (codes "key") said else None
+
+-- what is known of a packet by its key
+abbrev pub meta_key : List ℕ → Option Left
+meta_key key =
+    if bytes_eq key (codes "l4proto")
+    then Some (left.Header (part.Number field.Protocol) holders.All)
+    else (if bytes_eq key (codes "nfproto") then Some (left.Fact fact.Nfproto)
+    else (if bytes_eq key (codes "iif") then Some (left.Fact (fact.Interface way.In naming.Index))
+    else (if bytes_eq key (codes "iifname")
+    then Some (left.Fact (fact.Interface way.In naming.Name))
+    else (if bytes_eq key (codes "oif") then Some (left.Fact (fact.Interface way.Out naming.Index))
+    else (if bytes_eq key (codes "oifname")
+    then Some (left.Fact (fact.Interface way.Out naming.Name)) else None)))))
+
+-- what is known of a connection
+abbrev pub connection_key : List ℕ → Option Left
+connection_key key = if bytes_eq key (codes "state") then Some (left.Fact fact.State) else None
+
+-- the left side of a comparison by its name
+abbrev pub left_named : Family → List ℕ → Json → Option Left
+left_named family name said =
+    if bytes_eq name (codes "payload") then payload_of family said
+    else (if bytes_eq name (codes "meta") then option_and_then meta_key (key_in said)
+    else (if bytes_eq name (codes "ct") then option_and_then connection_key (key_in said)
+    else None))
+
+-- the left side of a comparison
+abbrev pub left_of : Family → Json → Option Left
+left_of family value = option_and_then (λ found. left_named family found.0 found.1) (only value)
+
+-- ---- the operator
+
+-- the operator of a comparison: `in` and `!` test bits
+abbrev pub operator_named : List ℕ → Option Operator
+operator_named name =
+    if bytes_eq name (codes "==") then Some operator.Equal
+    else (if bytes_eq name (codes "!=") then Some operator.Unequal
+    else (if bytes_eq name (codes "in") then Some operator.In
+    else (if bytes_eq name (codes "!") then Some operator.NotIn else None)))
+
+-- whether a comparison for equality is turned
+abbrev pub is_negated : Operator → Option Bool
+is_negated operator.Equal = Some false
+is_negated operator.Unequal = Some true
+is_negated operator.In = None
+is_negated operator.NotIn = None
+
+-- whether one with what is known is turned: of states each is one bit
+abbrev pub is_turned : Fact → Operator → Option Bool
+is_turned fact.Nfproto compares = is_negated compares
+is_turned (fact.Interface which manner) compares = is_negated compares
+is_turned fact.State operator.Equal = Some false
+is_turned fact.State operator.Unequal = Some true
+is_turned fact.State operator.In = Some false
+is_turned fact.State operator.NotIn = Some true
+
+-- ---- both sides
 
 -- the sides of a comparison
 pub record MatchSides : Type 0 where
-  pub side : Left
+  pub left : Json
   pub operator : Operator
   pub right : Json
 
+-- the same of sides that are found
+abbrev pub sides_seen : Sides → MatchSides
+sides_seen sides = record {
+  left = value_view sides.left.now;
+  operator = sides.operator;
+  right = value_view sides.right.now;
+}
+
 -- both sides, and the operator
-abbrev pub sides_of : Family → Json → Option MatchSides
-sides_of family said =
+abbrev pub sides_of : Json → Option MatchSides
+sides_of said =
     if len_of said == 3
-    then option_and_then (λ side. option_and_then (λ compares.
-    option_map (λ right. record { side = side; operator = compares; right = right })
+    then option_and_then (λ one. option_and_then (λ compares.
+    option_map (λ other. record { left = one; operator = compares; right = other })
     (get (codes "right") said))
-    (operator_of said))
-    (option_and_then (left_of family) (get (codes "left") said))
+    (option_and_then operator_named (text_in (codes "op") said)))
+    (get (codes "left") said)
     else None
+
+-- the protocol of packets that have what is compared
+abbrev pub protocol_held : Left → Option ℕ
+protocol_held (left.Header which (holders.Protocol number)) = Some number
+protocol_held (left.Header which holders.All) = None
+protocol_held (left.Header which holders.Ported) = None
+protocol_held left.OtherFamily = None
+protocol_held (left.Fact which) = None
+
+-- the same of a comparison
+abbrev pub protocol_in : Family → Json → Option ℕ
+protocol_in family said =
+    option_and_then (λ sides. option_and_then protocol_held (left_of family sides.left))
+    (sides_of said)

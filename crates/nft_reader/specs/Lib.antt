@@ -1,9 +1,7 @@
 pub mod Shapes
 pub mod Values
-pub mod Results
-pub mod Addresses
+pub mod Stops
 pub mod Compared
-pub mod Boxes
 pub mod Chains
 pub mod Sets
 pub mod Assumed
@@ -11,11 +9,9 @@ pub mod Comparisons
 pub mod Counted
 pub mod Known
 pub mod Keys
-pub mod Named
 pub mod Maps
 pub mod Readings
 pub mod Ruleset
-pub mod Stops
 pub mod RulesetExamples
 pub mod SetsExamples
 pub mod MapsExamples

@@ -16,10 +16,9 @@ use Rattle.nft_reader.specs.declared.fault.RuleFault.{RuleFault}
 use Rattle.nft_reader.specs.declared.fault.RuleKind.TheVariants as kind
 use Rattle.nft_reader.specs.Chains.{ListedChain, Names}
 use Rattle.nft_reader.specs.Keys.{parts_boxes}
-use Rattle.nft_reader.specs.Maps.{with_elements}
-use Rattle.nft_reader.specs.Readings.{with_statements}
-use Rattle.nft_reader.specs.Ruleset.{chains_of_document, nowhere, with_objects}
-use Rattle.nft_reader.specs.Values.{gathered}
+use Rattle.nft_reader.specs.Known.{nowhere}
+use Rattle.nft_reader.specs.Ruleset.{chains_of_document}
+use Rattle.nft_reader.specs.Stops.{folded}
 
 -- the numbers from one to another
 infixl 20 ◌to◌
@@ -96,7 +95,7 @@ an_element_for_all_others :
     ≡ with_rules (rule (Jump 0) (to_port 22) []
     ∷ rule Decide (packets (6 to 6) (0 to 4294967295) (0 to 65535)) (to_port 22 ∷ to_port 23 ∷ [])
     ∷ []) []
-unfolding json_on_literals with_statements with_objects with_elements gathered parts_boxes digits
+unfolding json_on_literals folded parts_boxes digits
 an_element_for_all_others = refl
 
 -- meta l4proto { udp, sctp } th dport vmap { 53 : accept, * : drop }
@@ -107,7 +106,7 @@ a_map_of_ports :
     ++ codes "{\"accept\": null}], [\"*\", {\"drop\": null}]]}}}")
     ≡ with_rules (of_port (17 to 17) ∷ of_port (132 to 132)
     ∷ of_others (17 to 17) ∷ of_others (132 to 132) ∷ []) []
-unfolding json_on_literals with_statements with_objects with_elements gathered parts_boxes digits
+unfolding json_on_literals folded parts_boxes digits
 a_map_of_ports = refl
 
 -- tcp dport vmap @verdicts
@@ -118,7 +117,7 @@ a_map_by_its_name :
     ++ codes "null}], [{\"elem\": {\"val\": 23, \"comment\": \"x\"}}, {\"return\": null}]]}}, ")
     (port_map (codes "\"@verdicts\""))
     ≡ with_rules (rule Decide (to_port 22) [] ∷ rule Return (to_port 23) [] ∷ []) []
-unfolding json_on_literals with_statements with_objects with_elements gathered parts_boxes digits
+unfolding json_on_literals folded parts_boxes digits
 a_map_by_its_name = refl
 
 -- ip saddr . tcp dport vmap { 10.0.0.1 . 22 : accept }
@@ -128,7 +127,7 @@ several_together :
     ++ codes "\"saddr\"}}, {\"payload\": {\"protocol\": \"tcp\", \"field\": \"dport\"}}]}, "
     ++ codes "\"data\": {\"set\": [[{\"concat\": [\"10.0.0.1\", 22]}, {\"accept\": null}]]}}}")
     ≡ with_rules (rule Decide (packets (6 to 6) (167772161 to 167772161) (22 to 22)) [] ∷ []) []
-unfolding json_on_literals with_statements with_objects with_elements gathered parts_boxes digits
+unfolding json_on_literals folded parts_boxes digits
 several_together = refl
 
 -- a port of two elements: which verdict it has isn't said
@@ -136,7 +135,7 @@ elements_that_overlap :
     said [] (port_map (codes "{\"set\": [[{\"range\": [20, 30]}, {\"accept\": null}], "
     ++ codes "[25, {\"drop\": null}]]}"))
     ≡ with_rules (unsaid ∷ []) (record { handle = 7; kind = kind.CantSay } ∷ [])
-unfolding json_on_literals with_statements with_objects with_elements gathered parts_boxes digits
+unfolding json_on_literals folded parts_boxes digits
 elements_that_overlap = refl
 
 -- ct state vmap { established : accept, invalid : drop }
@@ -145,8 +144,7 @@ a_map_of_states :
     ++ codes "\"state\"}}, \"data\": {\"set\": [[\"established\", {\"accept\": null}], "
     ++ codes "[\"invalid\", {\"drop\": null}]]}}}")
     ≡ with_rules (rule Decide (packets (0 to 255) (0 to 4294967295) (0 to 65535)) [] ∷ []) []
-unfolding json_on_literals with_statements with_objects with_elements parts_boxes digits
-    assumed_state_table
+unfolding json_on_literals folded parts_boxes digits assumed_state_table
 a_map_of_states = refl
 
 -- nothing may stand after a map
@@ -154,5 +152,5 @@ a_verdict_after_a_map :
     said [] (port_map (codes "{\"set\": [[22, {\"continue\": null}]]}") ++ codes ", {\"drop\": "
     ++ codes "null}")
     ≡ with_rules (unsaid ∷ []) (record { handle = 7; kind = kind.AfterVerdict } ∷ [])
-unfolding json_on_literals with_statements with_objects with_elements gathered parts_boxes digits
+unfolding json_on_literals folded parts_boxes digits
 a_verdict_after_a_map = refl

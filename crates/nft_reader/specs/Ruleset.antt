@@ -2,41 +2,42 @@
 -- of tables, chains, rules and others. The chains are those of inet, and by the family of packets
 -- of ip or ip6. A rule that no rule file says leads to no chain, so that a chain whose packets
 -- come to it isn't turned into rules.
-use Rattle.std.specs.Prelude.{ℕ, ◌+◌, ◌-◌, ◌^◌, ◌==◌, Bool, false, ◌&&◌, ◌||◌, nat_lt, is_some}
-use Rattle.std.specs.Prelude.{if◌then◌else◌, codes, slice_set, slice_index_or, length}
+use Rattle.std.specs.Prelude.{ℕ, ◌+◌, ◌-◌, ◌^◌, ◌==◌, Bool, false, ◌&&◌, ◌||◌, not, nat_lt, is_some}
+use Rattle.std.specs.Prelude.{if◌then◌else◌, codes, map, slice_set, slice_index_or, length}
 use Rattle.std.specs.Prelude.{List, [], ◌∷◌, ◌++◌, Option, Some, None, option_and_then}
 use Rattle.std.specs.Prelude.{Result, Ok, Err}
+use Rattle.std.specs.List.{flat_map}
+use Rattle.std.specs.Option.{option_map}
 use Rattle.std.specs.Str.{bytes_eq, is_utf8}
 use Rattle.json.specs.Json.{Json, document}
 use Rattle.json.specs.Find.{get}
+use Rattle.json.specs.Value.{value_view}
 use Rattle.field_defs.specs.declared.field.Family.{Family}
-use Rattle.field_defs.specs.declared.field.Family.TheVariants as family
-use Rattle.std.specs.List.{flat_map}
-use Rattle.iptables_reader.specs.Packets.{CaughtBoxes, all_caught, rules_of_caught}
+use Rattle.iptables_reader.specs.Packets.{rules_of_caught}
 use Rattle.list_chains.specs.declared.span.Span.{Span}
-use Rattle.list_chains.specs.declared.chain.Target.{Target}
-use Rattle.list_chains.specs.declared.chain.Target.TheVariants as target
 use Rattle.list_chains.specs.Chains.{ListRule}
 use Rattle.nft_reader.specs.declared.fault.RuleKind.{RuleKind}
+use Rattle.nft_reader.specs.declared.fault.RuleFault.{RuleFault}
 use Rattle.nft_reader.specs.declared.fault.ObjectKind.{ObjectKind}
 use Rattle.nft_reader.specs.declared.fault.ObjectKind.TheVariants as object
 use Rattle.nft_reader.specs.declared.fault.ObjectFault.{ObjectFault}
-use Rattle.nft_reader.specs.declared.reading.Verdict.{Verdict}
-use Rattle.nft_reader.specs.declared.reading.Verdict.TheVariants as verdict
-use Rattle.nft_reader.specs.declared.reading.Act.{Act}
-use Rattle.nft_reader.specs.declared.reading.Act.TheVariants as act
-use Rattle.nft_reader.specs.declared.maps.Branch.{Branch}
+use Rattle.nft_reader.specs.declared.fault.NftFault.{NftFault}
+use Rattle.nft_reader.specs.declared.fault.NftFault.TheVariants as told
+use Rattle.nft_reader.specs.declared.fault.Stop.{Stop}
+use Rattle.nft_reader.specs.declared.fault.Stop.TheVariants as stop
 use Rattle.nft_reader.specs.declared.known.Answers.{Answers}
-use Rattle.nft_reader.specs.declared.known.Answers.TheVariants as answers
 use Rattle.nft_reader.specs.declared.known.Asked.{Asked}
+use Rattle.nft_reader.specs.declared.known.Branch.{Branch}
+use Rattle.nft_reader.specs.declared.ruleset.RuleParts as found
 use Rattle.nft_reader.specs.declared.ruleset.TheConstants.{MAX_RULESET}
 use Rattle.nft_reader.specs.Chains.{ListedChain, Names, no_chain, place_of}
-use Rattle.nft_reader.specs.Comparisons.{caught_by}
-use Rattle.nft_reader.specs.Known.{Question, Setting}
-use Rattle.nft_reader.specs.Results.{◌>>=◌}
-use Rattle.nft_reader.specs.Readings.{ReadRule, decides, no_reading, with_statements}
-use Rattle.nft_reader.specs.Sets.{sets_in}
-use Rattle.nft_reader.specs.Shapes.{items_in, items_of, len_of, number_in, only, present, text_in}
+use Rattle.nft_reader.specs.Compared.{own_name}
+use Rattle.nft_reader.specs.Known.{Question, Setting, answer_of, policy_named}
+use Rattle.nft_reader.specs.Readings.{SaidRule, with_statements}
+use Rattle.nft_reader.specs.Sets.{owner_in, sets_in}
+use Rattle.nft_reader.specs.Shapes.{is_one_of, items_in, items_of, len_of, number_in, only, present}
+use Rattle.nft_reader.specs.Shapes.{said_by, text_in}
+use Rattle.nft_reader.specs.Stops.{◌>>=◌, folded, or_cause}
 
 -- how many bytes a ruleset may have
 abbrev pub max_ruleset : ℕ
@@ -46,119 +47,29 @@ max_ruleset = MAX_RULESET
 abbrev pub max_handle : ℕ
 max_handle = 2 ^ 32 - 1
 
--- ---- the answers of rules
-
--- the number of a verdict
-abbrev pub verdict_answer : Verdict → ℕ
-verdict_answer verdict.Accept = 1
-verdict_answer verdict.Drop = 2
-verdict_answer verdict.Reject = 3
-verdict_answer verdict.Return = 0
-
--- the answer of a verdict of a rule or a policy with a handle
-abbrev pub answer_of : Answers → ℕ → Verdict → ℕ
-answer_of answers.Handle handle said = handle
-answer_of answers.Verdict handle said = verdict_answer said
-
--- what a rule answers for the packets that it decides
-abbrev pub act_answer : Answers → ℕ → Act → ℕ
-act_answer asked handle (act.Decide said) = answer_of asked handle said
-act_answer asked handle (act.Jump place) = handle
-act_answer asked handle (act.Go place) = handle
-
--- a verdict decides, but for `return`
-abbrev pub verdict_target : Verdict → Target
-verdict_target verdict.Accept = target.Decide
-verdict_target verdict.Drop = target.Decide
-verdict_target verdict.Reject = target.Decide
-verdict_target verdict.Return = target.Return
-
--- what a rule does with the packets that it catches
-abbrev pub act_target : Act → Target
-act_target (act.Decide said) = verdict_target said
-act_target (act.Jump place) = target.Jump place
-act_target (act.Go place) = target.Go place
-
--- the place of no chain
-abbrev pub nowhere : Target
-nowhere = target.Jump (2 ^ 64 - 1)
-
 -- ---- rules
 
--- a chain with more rules
-abbrev pub more_rules : List (ListRule (List Span)) → ListedChain → ListedChain
-more_rules rules chain = record chain { rules = chain.rules ++ rules }
+-- the rules of a branch of a rule
+abbrev pub branch_rules : Family → Branch → List (ListRule (List Span))
+branch_rules family branch =
+    rules_of_caught family branch.caught branch.does.answer branch.does.target
 
--- a chain with a rule that no rule file says
-abbrev pub with_fault : ℕ → RuleKind → ListedChain → ListedChain
-with_fault handle why chain =
-    record chain { faults = chain.faults ++ record { handle = handle; kind = why } ∷ [] }
+-- the fault of a rule that no rule file says
+abbrev pub fault_list : ℕ → Option RuleKind → List RuleFault
+fault_list handle None = []
+fault_list handle (Some why) = record { handle = handle; kind = why } ∷ []
 
--- the rules of packets of which something becomes
-abbrev pub acted_rules : Asked → ℕ → CaughtBoxes → Act → List (ListRule (List Span))
-acted_rules asked handle caught does =
-    rules_of_caught asked.family caught (act_answer asked.answers handle does) (act_target does)
-
--- those of a branch
-abbrev pub branch_rules : Asked → ℕ → Branch → List (ListRule (List Span))
-branch_rules asked handle branch = acted_rules asked handle branch.caught branch.act
-
--- a rule does what its verdict says, or else what the branches of its map do
-abbrev pub read_rules : Asked → ℕ → ReadRule → Option Act → List (ListRule (List Span))
-read_rules asked handle reading None = flat_map (branch_rules asked handle) reading.branches
-read_rules asked handle reading (Some does) =
-    acted_rules asked handle (caught_by asked.family reading.compared) does
-
--- it does so, unless there is a cause why no rule file says it
-abbrev pub with_done : Asked → ℕ → ReadRule → Option RuleKind → ListedChain → ListedChain
-with_done asked handle reading None chain =
-    more_rules (read_rules asked handle reading reading.act) chain
-with_done asked handle reading (Some why) chain =
-    with_fault handle why (more_rules (rules_of_caught asked.family
-    (caught_by asked.family reading.compared) handle nowhere) chain)
-
--- a rule without a verdict and without a map does nothing: the next one decides
-abbrev pub with_said : Asked → ℕ → ReadRule → ListedChain → ListedChain
-with_said asked handle reading chain =
-    if decides reading then with_done asked handle reading reading.cause chain else chain
-
--- a rule that isn't read, of which nothing is known
-abbrev pub with_unread : Family → ℕ → RuleKind → ListedChain → ListedChain
-with_unread family handle why chain =
-    with_fault handle why
-    (more_rules (rules_of_caught family (all_caught family) handle nowhere) chain)
-
--- a rule that was read, or why it isn't
-abbrev pub with_read : Asked → ℕ → Result ReadRule RuleKind → ListedChain → ListedChain
-with_read asked handle (Ok reading) chain = with_said asked handle reading chain
-with_read asked handle (Err why) chain = with_unread asked.family handle why chain
-
--- a part of an object that is there, or else its fault
-abbrev pub or_fault : {A : Type 0} → ObjectKind → Option A → Result A ObjectKind
-or_fault why None = Err why
-or_fault why (Some part) = Ok part
-
--- an object of a chain or a rule has these names in the family
-abbrev pub owner_of : ObjectKind → List ℕ → List ℕ → Json → Result Names ObjectKind
-owner_of why family key said =
-    or_fault why (text_in (codes "table") said) >>= λ table.
-    or_fault why (text_in key said) >>= λ name.
-    Ok (record { family = family; table = table; name = name })
-
--- the handle of a chain or a rule
-abbrev pub handle_of : ObjectKind → Json → Result ℕ ObjectKind
-handle_of why said = or_fault why (number_in max_handle (codes "handle") said)
+-- a chain with a rule more
+abbrev pub with_said : Family → ℕ → SaidRule → ListedChain → ListedChain
+with_said family handle said chain = record chain {
+  rules = chain.rules ++ flat_map (branch_rules family) said.branches;
+  faults = chain.faults ++ fault_list handle said.cause;
+}
 
 -- a rule has five members, and may have a comment
 abbrev pub has_rule_members : Json → Bool
 has_rule_members said =
     len_of said == 5 || (len_of said == 6 && is_some (text_in (codes "comment") said))
-
--- the statements of a rule
-abbrev pub statements_of : Json → Result (List Json) ObjectKind
-statements_of said =
-    if has_rule_members said then or_fault object.BadRule (items_in (codes "expr") said)
-    else Err object.BadRule
 
 -- what a rule says: its chain, its handle and its statements
 pub record RuleParts : Type 0 where
@@ -166,51 +77,54 @@ pub record RuleParts : Type 0 where
   pub handle : ℕ
   pub statements : List Json
 
--- the parts of a rule of a family
-abbrev pub parts_of_rule : List ℕ → Json → Result RuleParts ObjectKind
-parts_of_rule family said =
-    owner_of object.BadRule family (codes "chain") said >>= λ owner.
-    handle_of object.BadRule said >>= λ handle.
-    statements_of said >>= λ statements.
-    Ok (record { owner = owner; handle = handle; statements = statements })
+-- the same of parts that are found
+abbrev pub parts_seen : found.RuleParts → RuleParts
+parts_seen parts = record {
+  owner = parts.owner;
+  handle = parts.handle;
+  statements = map value_view parts.statements.now;
+}
+
+-- the handle of a chain or a rule
+abbrev pub handle_in : Json → Option ℕ
+handle_in said = number_in max_handle (codes "handle") said
+
+-- the parts of a rule
+abbrev pub rule_parts : Json → Option RuleParts
+rule_parts said =
+    if has_rule_members said
+    then option_and_then (λ owner. option_and_then (λ handle.
+    option_map (λ statements. record {
+      owner = owner;
+      handle = handle;
+      statements = statements;
+    }) (items_in (codes "expr") said))
+    (handle_in said))
+    (owner_in (codes "chain") said)
+    else None
 
 -- the chains with a rule of one of them
 abbrev pub with_rule_at : Setting → RuleParts → List ListedChain → ℕ → List ListedChain
 with_rule_at setting parts chains place =
     slice_set chains place
-    (with_read setting.question.asked parts.handle
+    (with_said setting.question.asked.family parts.handle
     (with_statements (record {
       question = setting.question;
       sets = setting.sets;
       chains = chains;
       owner = parts.owner;
-    })
-    no_reading parts.statements)
+      handle = parts.handle;
+    }) parts.statements)
     (slice_index_or chains place no_chain))
 
 -- the chains with a rule, whose chain stands before it
-abbrev pub with_parts : Setting → List ListedChain → RuleParts →
-    Result (List ListedChain) ObjectKind
-with_parts setting chains parts =
-    or_fault object.NoChain (place_of false parts.owner chains) >>= λ place.
+abbrev pub with_rule : Setting → List ListedChain → Json → Result (List ListedChain) ObjectKind
+with_rule setting chains said =
+    or_cause object.BadRule (rule_parts said) >>= λ parts.
+    or_cause object.NoChain (place_of false parts.owner chains) >>= λ place.
     Ok (with_rule_at setting parts chains place)
 
--- the chains with a rule of a family
-abbrev pub with_rule : Setting → List ListedChain → List ℕ → Json →
-    Result (List ListedChain) ObjectKind
-with_rule setting chains family said = parts_of_rule family said >>= with_parts setting chains
-
 -- ---- chains
-
--- the verdict of a policy
-abbrev pub policy_named : List ℕ → Option Verdict
-policy_named word =
-    if bytes_eq word (codes "accept") then Some verdict.Accept
-    else (if bytes_eq word (codes "drop") then Some verdict.Drop else None)
-
--- the verdict of the policy of a chain
-abbrev pub policy_in : Json → Option Verdict
-policy_in said = option_and_then policy_named (text_in (codes "policy") said)
 
 -- a chain that packets come to by themselves has a type, a hook and a priority
 abbrev pub has_hook : Json → Bool
@@ -218,15 +132,14 @@ has_hook said =
     is_some (text_in (codes "type") said) && is_some (text_in (codes "hook") said)
     && is_some (get (codes "prio") said)
 
--- the answer of a policy, which is one
-abbrev pub policy_answer : Answers → ℕ → Option Verdict → Result (Option ℕ) ObjectKind
-policy_answer asked handle None = Err object.BadPolicy
-policy_answer asked handle (Some said) = Ok (Some (answer_of asked handle said))
-
 -- the answer of the policy of such a chain
 abbrev pub base_policy : Answers → ℕ → Json → Result (Option ℕ) ObjectKind
 base_policy asked handle said =
-    if has_hook said then policy_answer asked handle (policy_in said) else Err object.BadChain
+    if has_hook said
+    then (or_cause object.BadPolicy
+    (option_and_then policy_named (text_in (codes "policy") said)) >>= λ verdict.
+    Ok (Some (answer_of asked handle verdict)))
+    else Err object.BadChain
 
 -- a chain has four members, and eight if packets come to it by themselves; it may have a comment
 abbrev pub policy_of : Answers → ℕ → Json → Result (Option ℕ) ObjectKind
@@ -235,185 +148,138 @@ policy_of asked handle said =
     else (if len_of said == 8 + present (codes "comment") said then base_policy asked handle said
     else Err object.BadChain)
 
--- what a chain says: its name and the answer of its policy
-pub record ChainParts : Type 0 where
-  pub owner : Names
-  pub policy : Option ℕ
-
--- the parts of a chain of a family
-abbrev pub parts_of_chain : Answers → List ℕ → Json → Result ChainParts ObjectKind
-parts_of_chain asked family said =
-    owner_of object.BadChain family (codes "name") said >>= λ owner.
-    handle_of object.BadChain said >>= λ handle.
-    policy_of asked handle said >>= λ policy.
-    Ok (record { owner = owner; policy = policy })
-
--- the chains with one more, which has no rules
-abbrev pub one_more : List ListedChain → ChainParts → List ListedChain
-one_more chains parts = chains ++ record {
-  owner = parts.owner;
-  policy = parts.policy;
-  rules = [];
-  faults = [];
-} ∷ []
-
--- it didn't stand before
-abbrev pub with_declared : List ListedChain → ChainParts → Result (List ListedChain) ObjectKind
-with_declared chains parts =
-    if is_some (place_of false parts.owner chains) then Err object.ChainTwice
-    else Ok (one_more chains parts)
-
--- the chains with one of a family
-abbrev pub with_chain : Question → List ListedChain → List ℕ → Json →
-    Result (List ListedChain) ObjectKind
-with_chain question chains family said =
-    parts_of_chain question.asked.answers family said >>= with_declared chains
+-- the chains with one more, which didn't stand before and has no rules
+abbrev pub with_chain : Setting → List ListedChain → Json → Result (List ListedChain) ObjectKind
+with_chain setting chains said =
+    or_cause object.BadChain (owner_in (codes "name") said) >>= λ owner.
+    or_cause object.BadChain (handle_in said) >>= λ handle.
+    policy_of setting.question.asked.answers handle said >>= λ policy.
+    if is_some (place_of false owner chains) then Err object.ChainTwice
+    else Ok (chains ++ record { owner = owner; policy = policy; rules = []; faults = [] } ∷ [])
 
 -- ---- objects
 
 -- packets of a family come to tables of one of a name
 abbrev pub is_read : Family → List ℕ → Bool
-is_read family.Ip4 name = bytes_eq name (codes "ip") || bytes_eq name (codes "inet")
-is_read family.Ip6 name = bytes_eq name (codes "ip6") || bytes_eq name (codes "inet")
+is_read family name = bytes_eq name (codes "inet") || bytes_eq name (own_name family)
 
 -- a family of tables (nft(8), "ADDRESS FAMILIES")
 abbrev pub is_family : List ℕ → Bool
 is_family name =
-    bytes_eq name (codes "ip") || bytes_eq name (codes "ip6") || bytes_eq name (codes "inet")
-    || bytes_eq name (codes "arp") || bytes_eq name (codes "bridge")
-    || bytes_eq name (codes "netdev")
-
--- a name that is one of a family
-abbrev pub family_named : List ℕ → Option (List ℕ)
-family_named name = if is_family name then Some name else None
+    is_one_of (codes "ip" ∷ codes "ip6" ∷ codes "inet" ∷ codes "arp" ∷ codes "bridge"
+    ∷ codes "netdev" ∷ []) name
 
 -- the family of an object
 abbrev pub family_in : Json → Option (List ℕ)
-family_in said = option_and_then family_named (text_in (codes "family") said)
+family_in said =
+    option_and_then (λ name. if is_family name then Some name else None)
+    (text_in (codes "family") said)
 
--- an object has a family
-abbrev pub has_family : Json → Bool
-has_family said = is_some (family_in said)
-
--- a table has flags
-abbrev pub has_flags : Json → Bool
-has_flags said = is_some (get (codes "flags") said)
-
--- a table has a family, and no flags: one that is dormant has no packets
-abbrev pub table_fault : Json → Option ObjectKind
-table_fault said =
-    if has_family said then (if has_flags said then Some object.BadTable else None)
-    else Some object.NoFamily
-
--- objects of tables that statements of rules name (libnftables-json(5), "COUNTER" to "LIMIT"; nft
--- prints the others like these)
-abbrev pub is_stateful : List ℕ → Bool
-is_stateful name =
-    bytes_eq name (codes "counter") || bytes_eq name (codes "quota")
-    || bytes_eq name (codes "limit") || bytes_eq name (codes "secmark")
-    || bytes_eq name (codes "synproxy")
-
--- those of connections ("CT HELPER" to "CT EXPECTATION", and "FLOWTABLE")
-abbrev pub is_of_connections : List ℕ → Bool
-is_of_connections name =
-    bytes_eq name (codes "ct helper") || bytes_eq name (codes "ct timeout")
+-- objects of tables that statements of rules seldom name ("SECMARK" to "CT EXPECTATION" and
+-- "FLOWTABLE" of libnftables-json(5))
+abbrev pub is_rare : List ℕ → Bool
+is_rare name =
+    bytes_eq name (codes "secmark") || bytes_eq name (codes "synproxy")
+    || bytes_eq name (codes "ct helper") || bytes_eq name (codes "ct timeout")
     || bytes_eq name (codes "ct expectation") || bytes_eq name (codes "flowtable")
 
--- objects of tables that say nothing of packets by themselves
+-- objects of tables that say nothing of packets by themselves: sets, and such that statements of
+-- rules name
 abbrev pub is_silent : List ℕ → Bool
 is_silent name =
-    bytes_eq name (codes "set") || bytes_eq name (codes "map") || is_stateful name
-    || is_of_connections name
+    bytes_eq name (codes "set") || bytes_eq name (codes "map")
+    || bytes_eq name (codes "counter") || bytes_eq name (codes "quota")
+    || bytes_eq name (codes "limit") || is_rare name
 
--- such an object has a family
-abbrev pub silent_fault : Json → Option ObjectKind
-silent_fault said = if has_family said then None else Some object.NoFamily
+-- a table has no flags: one that is dormant has no packets
+abbrev pub with_table : List ListedChain → Json → Result (List ListedChain) ObjectKind
+with_table chains said =
+    if is_some (get (codes "flags") said) then Err object.BadTable else Ok chains
 
--- the fault of an object that is no chain and no rule
-abbrev pub other_fault : List ℕ → Json → Option ObjectKind
-other_fault name said =
-    if bytes_eq name (codes "table") then table_fault said
-    else (if is_silent name then silent_fault said
-    else (if bytes_eq name (codes "metainfo") then None else Some object.UnknownObject))
-
--- the chains stay as they are, unless an object has a fault
-abbrev pub unless : List ListedChain → Option ObjectKind → Result (List ListedChain) ObjectKind
-unless chains None = Ok chains
-unless chains (Some why) = Err why
-
--- a chain of a family that is read; others have no part
-abbrev pub with_chain_object : Question → List ListedChain → Json →
+-- an object of a family by its name; chains and rules of families that aren't read have no part
+abbrev pub with_part : Setting → List ListedChain → List ℕ → Json → List ℕ →
     Result (List ListedChain) ObjectKind
-with_chain_object question chains said =
-    or_fault object.NoFamily (family_in said) >>= λ name.
-    if is_read question.asked.family name then with_chain question chains name said else Ok chains
+with_part setting chains name said family =
+    if bytes_eq name (codes "table") then with_table chains said
+    else (if not (is_read setting.question.asked.family family) then Ok chains
+    else (if bytes_eq name (codes "rule") then with_rule setting chains said
+    else (if bytes_eq name (codes "chain") then with_chain setting chains said else Ok chains)))
 
--- a rule of such a family
-abbrev pub with_rule_object : Setting → List ListedChain → Json →
-    Result (List ListedChain) ObjectKind
-with_rule_object setting chains said =
-    or_fault object.NoFamily (family_in said) >>= λ name.
-    if is_read setting.question.asked.family name then with_rule setting chains name said
-    else Ok chains
+-- objects of a name have a family
+abbrev pub has_family : List ℕ → Bool
+has_family name =
+    bytes_eq name (codes "rule") || bytes_eq name (codes "chain")
+    || bytes_eq name (codes "table") || is_silent name
 
 -- an object by its name
 abbrev pub with_named_object : Setting → List ListedChain → List ℕ → Json →
     Result (List ListedChain) ObjectKind
 with_named_object setting chains name said =
-    if bytes_eq name (codes "rule") then with_rule_object setting chains said
-    else (if bytes_eq name (codes "chain") then with_chain_object setting.question chains said
-    else unless chains (other_fault name said))
+    if has_family name
+    then (or_cause object.NoFamily (family_in said) >>= with_part setting chains name said)
+    else (if bytes_eq name (codes "metainfo") then Ok chains else Err object.UnknownObject)
 
--- an object by its only member, if it has one
-abbrev pub with_only_object : Setting → List ListedChain → Option (List ℕ × Json) →
-    Result (List ListedChain) ObjectKind
-with_only_object setting chains None = Err object.UnknownObject
-with_only_object setting chains (Some found) = with_named_object setting chains found.0 found.1
-
--- an object
+-- an object has one member
 abbrev pub with_object : Setting → List ListedChain → Json → Result (List ListedChain) ObjectKind
-with_object setting chains value = with_only_object setting chains (only value)
+with_object setting chains value =
+    or_cause object.UnknownObject (only value) >>= λ found.
+    with_named_object setting chains found.0 found.1
 
--- the fault of an object, or what the objects after it make
-abbrev pub object_then : ℕ → Result (List ListedChain) ObjectKind →
-    (List ListedChain → Result (List ListedChain) ObjectFault) →
-    Result (List ListedChain) ObjectFault
-object_then number (Err why) following = Err (record { object = number; kind = why })
-object_then number (Ok chains) following = following chains
+-- the objects that were read, by their number, and the chains of them
+pub record ReadObjects : Type 0 where
+  pub number : ℕ
+  pub chains : List ListedChain
 
--- what objects make of the chains after so many objects: the first fault is that of the ruleset
-unfoldable pub with_objects : Setting → ℕ → List ListedChain → List Json →
-    Result (List ListedChain) ObjectFault
-with_objects setting number chains [] = Ok chains
-with_objects setting number chains (value ∷ values) =
-    object_then (number + 1) (with_object setting chains value)
-    (λ more. with_objects setting (number + 1) more values)
+-- none
+abbrev pub none_read : ReadObjects
+none_read = record { number = 0; chains = [] }
 
--- the question and the sets of the objects
-abbrev pub set_in : List Json → Question → Setting
-set_in objects question = record { question = question; sets = sets_in objects objects }
+-- an object more, or its fault
+abbrev pub one_more : ℕ → Result (List ListedChain) ObjectKind → Result ReadObjects ObjectFault
+one_more number (Ok chains) = Ok (record { number = number; chains = chains })
+one_more number (Err why) = Err (record { object = number; kind = why })
+
+-- the fault of a ruleset whose object isn't read, or want of memory
+abbrev pub fault_of : ℕ → Stop ObjectKind → NftFault
+fault_of number (stop.Told kind) = told.Object (record { object = number; kind = kind })
+fault_of number stop.OutOfMemory = told.OutOfMemory
+
+-- the next object: the first fault is that of the ruleset
+abbrev pub with_next : Setting → ReadObjects → Json → Result ReadObjects ObjectFault
+with_next setting read value =
+    one_more (read.number + 1) (with_object setting read.chains value)
+
+-- the chains of objects
+abbrev pub objects_read : Setting → List Json → Result (List ListedChain) ObjectFault
+objects_read setting objects =
+    folded (with_next setting) none_read objects >>= λ read. Ok read.chains
+
+-- the chains of objects that may name sets
+abbrev pub with_objects : Question → List Json → Result (List ListedChain) ObjectFault
+with_objects question objects =
+    objects_read (record { question = question; sets = sets_in objects objects }) objects
+
+-- the question before any rule
+abbrev pub question : Asked → List ℕ → Question
+question asked assumed = record { asked = asked; assumed = assumed; ported = false }
 
 -- a fault of the whole file
 abbrev pub whole_fault : ObjectKind → ObjectFault
 whole_fault why = record { object = 0; kind = why }
 
--- the objects of a ruleset's only member
-abbrev pub listed_objects : List ℕ → Json → Option (List Json)
-listed_objects name said = if bytes_eq name (codes "nftables") then items_of said else None
-
--- the objects of a ruleset
+-- the objects of a ruleset, which has the one member `nftables`
 abbrev pub objects_of : Json → Option (List Json)
-objects_of value = option_and_then (λ found. listed_objects found.0 found.1) (only value)
+objects_of value = option_and_then items_of (said_by (codes "nftables") value)
 
--- the chains of objects
-abbrev pub chains_of_objects : Question → Option (List Json) → Result (List ListedChain) ObjectFault
-chains_of_objects question None = Err (whole_fault object.NoList)
-chains_of_objects question (Some objects) = with_objects (set_in objects question) 0 [] objects
+-- the chains of a value
+abbrev pub chains_of_value : Question → Json → Result (List ListedChain) ObjectFault
+chains_of_value question value =
+    or_cause (whole_fault object.NoList) (objects_of value) >>= with_objects question
 
 -- the chains of a text of JSON
 abbrev pub chains_of_document : Question → Option Json → Result (List ListedChain) ObjectFault
-chains_of_document question None = Err (whole_fault object.NotJson)
-chains_of_document question (Some value) = chains_of_objects question (objects_of value)
+chains_of_document question value =
+    or_cause (whole_fault object.NotJson) value >>= chains_of_value question
 
 -- the chains of a text, which is UTF-8
 abbrev pub chains_of_text : Question → List ℕ → Result (List ListedChain) ObjectFault
@@ -425,4 +291,4 @@ chains_of_text question bytes =
 abbrev pub chains_of : Asked → List ℕ → List ℕ → Result (List ListedChain) ObjectFault
 chains_of asked assumed bytes =
     if nat_lt max_ruleset (length bytes) then Err (whole_fault object.FileTooLong)
-    else chains_of_text (record { asked = asked; assumed = assumed; ported = false }) bytes
+    else chains_of_text (question asked assumed) bytes

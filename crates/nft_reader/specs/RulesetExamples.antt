@@ -20,9 +20,9 @@ use Rattle.nft_reader.specs.declared.fault.RuleFault.{RuleFault}
 use Rattle.nft_reader.specs.declared.fault.RuleKind.{RuleKind}
 use Rattle.nft_reader.specs.declared.fault.RuleKind.TheVariants as kind
 use Rattle.nft_reader.specs.Chains.{ListedChain, Names}
-use Rattle.nft_reader.specs.Readings.{with_statements}
-use Rattle.nft_reader.specs.Ruleset.{chains_of, chains_of_document, nowhere, with_objects}
-use Rattle.nft_reader.specs.Values.{gathered}
+use Rattle.nft_reader.specs.Known.{nowhere}
+use Rattle.nft_reader.specs.Ruleset.{chains_of, chains_of_document}
+use Rattle.nft_reader.specs.Stops.{folded}
 
 -- the numbers from one to another
 infixl 20 ◌to◌
@@ -121,7 +121,7 @@ an_address : said
     (codes "{\"match\": {\"op\": \"==\", \"left\": {\"payload\": {\"protocol\": \"ip\", \"field\": "
     ++ codes "\"saddr\"}}, \"right\": \"10.0.0.1\"}}, {\"accept\": null}")
     ≡ with_rules (rule 7 Decide (all ∷ (167772161 to 167772161) ∷ any ∷ ports ∷ ports ∷ []) ∷ []) []
-unfolding json_on_literals with_statements with_objects gathered digits
+unfolding json_on_literals folded digits
 an_address = refl
 
 -- ip daddr != 192.168.0.0/16 drop
@@ -130,7 +130,7 @@ a_prefix_of_other_addresses : said
     ++ codes "\"daddr\"}}, \"right\": {\"prefix\": {\"addr\": \"192.168.0.0\", \"len\": 16}}}}, "
     ++ codes "{\"drop\": null}")
     ≡ with_rules (all_but (all ∷ any ∷ (3232235520 to 3232301055) ∷ ports ∷ ports ∷ []) ∷ []) []
-unfolding json_on_literals with_statements with_objects gathered digits
+unfolding json_on_literals folded digits
 a_prefix_of_other_addresses = refl
 
 -- tcp dport { 22, 1000-2000 } counter jump web
@@ -140,7 +140,7 @@ ports_of_tcp : said
     ++ codes "{\"counter\": {\"packets\": 0, \"bytes\": 0}}, {\"jump\": {\"target\": \"web\"}}")
     ≡ with_rules (rule 7 (Jump 0) (tcp ∷ any ∷ any ∷ ports ∷ (22 to 22) ∷ [])
     ∷ rule 7 (Jump 0) (tcp ∷ any ∷ any ∷ ports ∷ (1000 to 2000) ∷ []) ∷ []) []
-unfolding json_on_literals with_statements with_objects gathered digits
+unfolding json_on_literals folded digits
 ports_of_tcp = refl
 
 -- meta l4proto { icmp, 99 } return
@@ -149,7 +149,7 @@ protocols : said
     ++ codes "{\"set\": [\"icmp\", 99]}}}, {\"return\": null}")
     ≡ with_rules (rule 7 Return ((1 to 1) ∷ any ∷ any ∷ ports ∷ ports ∷ [])
     ∷ rule 7 Return ((99 to 99) ∷ any ∷ any ∷ ports ∷ ports ∷ []) ∷ []) []
-unfolding json_on_literals with_statements with_objects gathered digits
+unfolding json_on_literals folded digits
 protocols = refl
 
 -- ip6 saddr fe80::/10 ct state new accept: no IPv4 packet is caught
@@ -159,7 +159,7 @@ packets_of_ip6 : said
     ++ codes "\"saddr\"}}, \"right\": {\"prefix\": {\"addr\": \"fe80::\", \"len\": 10}}}}, "
     ++ codes "{\"accept\": null}")
     ≡ with_rules [] []
-unfolding json_on_literals with_statements with_objects gathered digits
+unfolding json_on_literals folded digits
 packets_of_ip6 = refl
 
 -- all halves of addresses, and the boxes of an address of IPv6 packets
@@ -177,7 +177,7 @@ packets_from_ip6 : said6
     ++ codes "{\"accept\": null}")
     ≡ with_rules
     (rule 7 Decide (from6 (18338657682652659712 to 18356672081162141695) half) ∷ []) []
-unfolding json_on_literals with_statements with_objects gathered digits
+unfolding json_on_literals folded digits
 packets_from_ip6 = refl
 
 -- ip6 saddr { ::1, ::5-::9 } accept
@@ -188,7 +188,7 @@ addresses_of_ip6 : said6
     ++ codes "{\"accept\": null}")
     ≡ with_rules (rule 7 Decide (from6 (0 to 0) (1 to 1))
     ∷ rule 7 Decide (from6 (0 to 0) (5 to 9)) ∷ []) []
-unfolding json_on_literals with_statements with_objects gathered digits
+unfolding json_on_literals folded digits
 addresses_of_ip6 = refl
 
 -- ip saddr 10.0.0.1 accept: no IPv6 packet is caught
@@ -196,21 +196,21 @@ packets_of_ip4 : said6
     (codes "{\"match\": {\"op\": \"==\", \"left\": {\"payload\": {\"protocol\": \"ip\", \"field\": "
     ++ codes "\"saddr\"}}, \"right\": \"10.0.0.1\"}}, {\"accept\": null}")
     ≡ with_rules [] []
-unfolding json_on_literals with_statements with_objects gathered digits
+unfolding json_on_literals folded digits
 packets_of_ip4 = refl
 
 -- reject with tcp reset, which in a table of the family ip shows no comparison with TCP
 a_reset : said
     (codes "{\"reject\": {\"type\": \"tcp reset\"}}")
     ≡ with_rules (rule 7 Decide (tcp ∷ any ∷ any ∷ ports ∷ ports ∷ []) ∷ []) []
-unfolding json_on_literals with_statements with_objects gathered digits
+unfolding json_on_literals folded digits
 a_reset = refl
 
 -- reject with icmpv6 type port-unreachable
 a_message_of_ip6 : said
     (codes "{\"reject\": {\"type\": \"icmpv6\", \"expr\": \"port-unreachable\"}}")
     ≡ with_rules [] []
-unfolding json_on_literals with_statements with_objects gathered digits
+unfolding json_on_literals folded digits
 a_message_of_ip6 = refl
 
 -- tcp dport 25 log: the next rule decides
@@ -218,7 +218,7 @@ only_a_log : said
     (codes "{\"match\": {\"op\": \"==\", \"left\": {\"payload\": {\"protocol\": \"tcp\", "
     ++ codes "\"field\": \"dport\"}}, \"right\": 25}}, {\"log\": null}")
     ≡ with_rules [] []
-unfolding json_on_literals with_statements with_objects gathered digits
+unfolding json_on_literals folded digits
 only_a_log = refl
 
 -- a comparison of the state of a connection, and accept
@@ -247,7 +247,7 @@ a_reset_of_several : said
     ≡ with_rules (rule 7 nowhere (tcp ∷ any ∷ any ∷ ports ∷ ports ∷ [])
     ∷ rule 7 nowhere ((17 to 17) ∷ any ∷ any ∷ ports ∷ ports ∷ []) ∷ [])
     (record { handle = 7; kind = kind.CantSay } ∷ [])
-unfolding json_on_literals with_statements with_objects gathered digits
+unfolding json_on_literals folded digits
 a_reset_of_several = refl
 
 -- a comparison of the protocol with two, one of them UDP, and th dport 53 accept
@@ -262,7 +262,7 @@ to_port_of protocol =
 ports_of_several : said (to_port_of (codes "\"tcp\""))
     ≡ with_rules (rule 7 Decide (tcp ∷ any ∷ any ∷ ports ∷ (53 to 53) ∷ [])
     ∷ rule 7 Decide ((17 to 17) ∷ any ∷ any ∷ ports ∷ (53 to 53) ∷ []) ∷ []) []
-unfolding json_on_literals with_statements with_objects gathered digits
+unfolding json_on_literals folded digits
 ports_of_several = refl
 
 -- meta l4proto { icmp, udp } th dport 53 accept: packets of ICMP have something else there
@@ -270,97 +270,97 @@ ports_of_others : said (to_port_of (codes "\"icmp\""))
     ≡ with_rules (rule 7 nowhere ((1 to 1) ∷ any ∷ any ∷ ports ∷ ports ∷ [])
     ∷ rule 7 nowhere ((17 to 17) ∷ any ∷ any ∷ ports ∷ ports ∷ []) ∷ [])
     (record { handle = 7; kind = kind.CantSay } ∷ [])
-unfolding json_on_literals with_statements with_objects gathered digits
+unfolding json_on_literals folded digits
 ports_of_others = refl
 
 -- ct state new accept: it leads to no chain, and its cause is told
 a_state : said (of_state (codes "\"in\"") (codes "\"new\"")) ≡ unsaid_by kind.NeedsState
-unfolding json_on_literals with_statements with_objects digits assumed_state_table
+unfolding json_on_literals folded digits assumed_state_table
 a_state = refl
 
 -- ct state established,related accept
 a_list_of_states : said_under (codes "state=related")
     (of_state (codes "\"in\"") (codes "[\"established\", \"related\"]")) ≡ accepts
-unfolding json_on_literals with_statements with_objects digits assumed_state_table
+unfolding json_on_literals folded digits assumed_state_table
 a_list_of_states = refl
 
 -- ct state { invalid, new } accept
 other_states : said_under (codes "in=lo,state=related")
     (of_state (codes "\"==\"") (codes "{\"set\": [\"invalid\", \"new\"]}")) ≡ with_rules [] []
-unfolding json_on_literals with_statements with_objects digits assumed_state_table
+unfolding json_on_literals folded digits assumed_state_table
 other_states = refl
 
 -- ct state & (invalid | new) == 0 accept
 none_of_the_states : said_under (codes "state=related")
     (of_state (codes "\"!\"") (codes "[\"invalid\", \"new\"]")) ≡ accepts
-unfolding json_on_literals with_statements with_objects digits assumed_state_table
+unfolding json_on_literals folded digits assumed_state_table
 none_of_the_states = refl
 
 -- ct state == invalid | new accept, which no connection has
 both_states : said_under (codes "state=new")
     (of_state (codes "\"==\"") (codes "{\"|\": [\"invalid\", \"new\"]}")) ≡ unsaid_by kind.CantSay
-unfolding json_on_literals with_statements with_objects digits assumed_state_table
+unfolding json_on_literals folded digits assumed_state_table
 both_states = refl
 
 -- iif lo accept
 no_interface : said (of_interface (codes "\"==\"") (codes "\"iif\"") (codes "\"lo\""))
     ≡ unsaid_by kind.NeedsInterface
-unfolding json_on_literals with_statements with_objects
+unfolding json_on_literals folded
 no_interface = refl
 
 -- iifname @ours accept, which names a set
 interfaces_of_a_set : said_under (codes "in=@ours")
     (of_interface (codes "\"==\"") (codes "\"iifname\"") (codes "\"@ours\""))
     ≡ unsaid_by kind.CantSay
-unfolding json_on_literals with_statements with_objects
+unfolding json_on_literals folded
 interfaces_of_a_set = refl
 
 -- the same of packets of another one
 other_interface : said_under (codes "in=eth0")
     (of_interface (codes "\"==\"") (codes "\"iif\"") (codes "\"lo\"")) ≡ with_rules [] []
-unfolding json_on_literals with_statements with_objects
+unfolding json_on_literals folded
 other_interface = refl
 
 -- iifname { "lo", "eth*" } accept
 an_interface : said_under (codes "in=eth0")
     (of_interface (codes "\"==\"") (codes "\"iifname\"") (codes "{\"set\": [\"lo\", \"eth*\"]}"))
     ≡ accepts
-unfolding json_on_literals with_statements with_objects
+unfolding json_on_literals folded
 an_interface = refl
 
 -- oifname != "eth\*" accept: a name with a `*` in it isn't read
 a_starred_name : said_under (codes "out=eth0")
     (of_interface (codes "\"!=\"") (codes "\"oifname\"") (codes "\"eth\\\\*\""))
     ≡ unsaid_by kind.CantSay
-unfolding json_on_literals with_statements with_objects
+unfolding json_on_literals folded
 a_starred_name = refl
 
 -- queue to 0
 a_queue : said
     (codes "{\"queue\": {\"num\": 0}}")
     ≡ unsaid_by kind.UnknownStatement
-unfolding json_on_literals with_statements with_objects gathered digits
+unfolding json_on_literals folded digits
 a_queue = refl
 
 -- limit name l accept
 a_named_limit : said
     (codes "{\"limit\": \"l\"}, {\"accept\": null}")
     ≡ unsaid_by kind.Rate
-unfolding json_on_literals with_statements with_objects gathered digits
+unfolding json_on_literals folded digits
 a_named_limit = refl
 
 -- quota name q accept
 a_named_quota : said
     (codes "{\"quota\": \"q\"}, {\"accept\": null}")
     ≡ unsaid_by kind.UnknownStatement
-unfolding json_on_literals with_statements with_objects gathered digits
+unfolding json_on_literals folded digits
 a_named_quota = refl
 
 -- flow add @t
 a_flow : said
     (codes "{\"flow\": {\"op\": \"add\", \"flowtable\": \"@t\"}}")
     ≡ unsaid_by kind.UnknownStatement
-unfolding json_on_literals with_statements with_objects gathered digits
+unfolding json_on_literals folded digits
 a_flow = refl
 
 -- ip saddr @blocked drop, without the set
@@ -368,7 +368,7 @@ a_set_that_isnt_there : said
     (codes "{\"match\": {\"op\": \"==\", \"left\": {\"payload\": {\"protocol\": \"ip\", \"field\": "
     ++ codes "\"saddr\"}}, \"right\": \"@blocked\"}}, {\"drop\": null}")
     ≡ unsaid_by kind.NoSet
-unfolding json_on_literals with_statements with_objects gathered digits
+unfolding json_on_literals folded digits
 a_set_that_isnt_there = refl
 
 -- an object of a table, after another one
@@ -385,7 +385,7 @@ silent_objects : read
     ∷ codes "ct expectation" ∷ codes "secmark" ∷ codes "synproxy" ∷ codes "flowtable" ∷ [])
     ++ codes "]}")
     ≡ Ok []
-unfolding json_on_literals with_objects
+unfolding json_on_literals folded
 silent_objects = refl
 
 -- a table and chains with comments
@@ -396,7 +396,7 @@ comments_of_chains : read
     ++ codes "\"table\": \"f\", \"name\": \"in\", \"handle\": 2, \"comment\": \"x\", \"type\": "
     ++ codes "\"filter\", \"hook\": \"input\", \"prio\": 0, \"policy\": \"drop\"}}]}")
     ≡ with_rules [] []
-unfolding json_on_literals with_objects
+unfolding json_on_literals folded
 comments_of_chains = refl
 
 -- a chain with another member is refused, by its number
@@ -404,20 +404,20 @@ a_chain_of_a_device : read
     (codes "{\"nftables\": [{\"chain\": {\"family\": \"inet\", \"table\": \"f\", \"name\": \"in\", "
     ++ codes "\"handle\": 2, \"dev\": \"eth0\"}}]}")
     ≡ Err (record { object = 1; kind = object.BadChain })
-unfolding json_on_literals with_objects
+unfolding json_on_literals folded
 a_chain_of_a_device = refl
 
 -- an object that isn't known is refused, by its number
 a_command : read (codes "{\"nftables\": [{\"metainfo\": {}}, {\"add\": {}}]}")
     ≡ Err (record { object = 2; kind = object.UnknownObject })
-unfolding json_on_literals with_objects
+unfolding json_on_literals folded
 a_command = refl
 
 -- so is one of a family that nft doesn't have, of whatever kind
 an_unknown_family : read (codes "{\"nftables\": [{\"table\": {\"family\": \"arp\", \"name\": "
     ++ codes "\"f\"}}, {\"set\": {\"family\": \"ipx\", \"name\": \"s\", \"table\": \"f\"}}]}")
     ≡ Err (record { object = 2; kind = object.NoFamily })
-unfolding json_on_literals with_objects
+unfolding json_on_literals folded
 an_unknown_family = refl
 
 -- what nft lists without -j is no JSON

@@ -14,10 +14,10 @@ use Rattle.nft_reader.specs.declared.fault.ObjectFault.{ObjectFault}
 use Rattle.nft_reader.specs.declared.fault.RuleFault.{RuleFault}
 use Rattle.nft_reader.specs.declared.fault.RuleKind.TheVariants as kind
 use Rattle.nft_reader.specs.Chains.{ListedChain}
-use Rattle.nft_reader.specs.Keys.{elements_boxes, parts_boxes}
-use Rattle.nft_reader.specs.Readings.{with_statements}
-use Rattle.nft_reader.specs.Ruleset.{chains_of_document, nowhere, with_objects}
-use Rattle.nft_reader.specs.Values.{gathered}
+use Rattle.nft_reader.specs.Keys.{parts_boxes}
+use Rattle.nft_reader.specs.Known.{nowhere}
+use Rattle.nft_reader.specs.Ruleset.{chains_of_document}
+use Rattle.nft_reader.specs.Stops.{folded}
 
 -- the numbers from one to another
 infixl 20 ◌to◌
@@ -97,12 +97,12 @@ a_set_of_spans :
     ++ codes "{\"elem\": {\"val\": \"12.0.0.1\", \"comment\": \"x\"}}]")) drops_blocked
     ≡ with_rules (from (167772160 to 184549375) ∷ from (184549377 to 184549385)
     ∷ from (201326593 to 201326593) ∷ []) []
-unfolding json_on_literals with_statements with_objects gathered digits
+unfolding json_on_literals folded digits
 a_set_of_spans = refl
 
 -- no packet is from an address of an empty set
 an_empty_set : said (set_of (codes ", \"size\": 100")) drops_blocked ≡ with_rules [] []
-unfolding json_on_literals with_statements with_objects gathered digits
+unfolding json_on_literals folded digits
 an_empty_set = refl
 
 -- a set that counts the packets of each element
@@ -112,7 +112,7 @@ a_set_that_counts :
     ++ codes "\"x\", \"counter\": {\"packets\": 0, \"bytes\": 0}}}], \"stmt\": [{\"counter\": "
     ++ codes "null}]")) drops_blocked
     ≡ with_rules (from (167772161 to 167772161) ∷ from (167772162 to 167772162) ∷ []) []
-unfolding json_on_literals with_statements with_objects gathered digits
+unfolding json_on_literals folded digits
 a_set_that_counts = refl
 
 -- one whose elements have a rate isn't known
@@ -120,14 +120,14 @@ a_set_with_a_rate :
     said (set_of (codes ", \"elem\": [\"10.0.0.1\"], \"stmt\": [{\"counter\": null}, {\"limit\": "
     ++ codes "{\"rate\": 1, \"burst\": 5, \"per\": \"second\"}}]")) drops_blocked
     ≡ with_rules (unsaid ∷ []) (record { handle = 7; kind = kind.OtherSet } ∷ [])
-unfolding json_on_literals with_statements with_objects gathered digits
+unfolding json_on_literals folded digits
 a_set_with_a_rate = refl
 
 -- a set whose elements end by time isn't known
 a_timed_set :
     said (set_of (codes ", \"flags\": [\"timeout\"], \"elem\": [\"10.0.0.1\"]")) drops_blocked
     ≡ with_rules (unsaid ∷ []) (record { handle = 7; kind = kind.ChangingSet } ∷ [])
-unfolding json_on_literals with_statements with_objects gathered digits
+unfolding json_on_literals folded digits
 a_timed_set = refl
 
 -- a rule of handle 8 that adds to the set: add @blocked { ip saddr }
@@ -142,7 +142,7 @@ a_set_that_a_rule_changes :
     read (codes "{\"nftables\": [" ++ set_of (codes ", \"elem\": [\"10.0.0.1\"]") ++ the_chain
     ++ rule_of drops_blocked ++ codes ", " ++ adds_to_blocked ++ codes "]}")
     ≡ with_rules (unsaid ∷ []) (record { handle = 7; kind = kind.ChangingSet } ∷ [])
-unfolding json_on_literals with_statements with_objects gathered digits
+unfolding json_on_literals folded digits
 a_set_that_a_rule_changes = refl
 
 -- a set of another table isn't there
@@ -150,7 +150,7 @@ a_set_of_another_table :
     said (codes "{\"set\": {\"family\": \"ip\", \"name\": \"blocked\", \"table\": \"g\", \"type\": "
     ++ codes "\"ipv4_addr\", \"handle\": 3, \"elem\": [\"10.0.0.1\"]}}, ") drops_blocked
     ≡ with_rules (unsaid ∷ []) (record { handle = 7; kind = kind.NoSet } ∷ [])
-unfolding json_on_literals with_statements with_objects gathered digits
+unfolding json_on_literals folded digits
 a_set_of_another_table = refl
 
 -- ip saddr . tcp dport
@@ -167,7 +167,7 @@ several_together :
     ++ codes "null}")
     ≡ with_rules (rule Decide (packets (6 to 6) (167772161 to 167772161) (22 to 22))
     ∷ rule Decide (packets (6 to 6) (184549376 to 201326591) (80 to 90)) ∷ []) []
-unfolding json_on_literals with_statements with_objects gathered parts_boxes elements_boxes digits
+unfolding json_on_literals folded parts_boxes digits
 several_together = refl
 
 -- meta l4proto . th dport, one of two elements, accept
@@ -183,14 +183,14 @@ ports_together :
     said [] (to_ports (codes "\"tcp\""))
     ≡ with_rules (rule Decide (packets (6 to 6) (0 to 4294967295) (22 to 22))
     ∷ rule Decide (packets (17 to 17) (0 to 4294967295) (53 to 53)) ∷ []) []
-unfolding json_on_literals with_statements with_objects gathered parts_boxes elements_boxes digits
+unfolding json_on_literals folded parts_boxes digits
 ports_together = refl
 
 -- meta l4proto . th dport { icmp . 22, udp . 53 } accept: packets of ICMP have something else there
 others_of_ports :
     said [] (to_ports (codes "\"icmp\""))
     ≡ with_rules (unsaid ∷ []) (record { handle = 7; kind = kind.CantSay } ∷ [])
-unfolding json_on_literals with_statements with_objects gathered parts_boxes elements_boxes digits
+unfolding json_on_literals folded parts_boxes digits
 others_of_ports = refl
 
 -- that they are others isn't said
@@ -198,5 +198,5 @@ others_together :
     said [] (codes "{\"match\": {\"op\": \"!=\", \"left\": " ++ pair
     ++ codes ", \"right\": {\"set\": [{\"concat\": [\"10.0.0.1\", 22]}]}}}, {\"accept\": null}")
     ≡ with_rules (unsaid ∷ []) (record { handle = 7; kind = kind.CantSay } ∷ [])
-unfolding json_on_literals with_statements with_objects gathered parts_boxes elements_boxes digits
+unfolding json_on_literals folded parts_boxes digits
 others_together = refl

@@ -2,27 +2,37 @@
 
 ghost use Rattle.std.specs.Prelude.{◌≡◌, ◌++◌, ◌<◌, ◌≤◌, length, map, IfOk, IfSome, OnOk};
 ghost use Rattle.std.specs.List.{flat_map};
-ghost use Rattle.nft_reader.specs.Chains.{names_of, place_of, start_from, start_of};
-ghost use Rattle.nft_reader.specs.Ruleset.{act_answer, act_target, answer_of, nowhere};
-ghost use Rattle.nft_reader.specs.Ruleset.{acted_rules, branch_rules, read_rules, verdict_answer};
+ghost use Rattle.nft_reader.specs.Chains.{place_of, start_from, start_of};
+ghost use Rattle.nft_reader.specs.Ruleset.{branch_rules};
 
-use crate::comparison::caught_by;
-use crate::fault::{RuleFault, RuleKind, StartFault};
-use crate::known::{Answers, Asked};
-use crate::maps::Branch;
-use crate::reading::{Act, Reading, Verdict};
+use crate::fault::{RuleFault, StartFault};
+use crate::known::{Branch, Outcome};
+use crate::reading::Said;
 use field_defs::Family;
-use iptables_reader::{Caught, put_rules};
-use list_chains::{Chain, ChainRule, Target};
+use iptables_reader::put_rules;
+use list_chains::{Chain, ChainRule};
 use std::alloc::{AllocError, Global};
 use std::marker::Model;
 
-/// The name of a chain: its family, its table, and its name there.
-#[derive(Clone, Copy)]
+/// The name of a chain or a set: its family, its table, and its name there. Contracts see a record
+/// of these.
+#[derive(Drop)]
 pub(crate) struct Owner<'a> {
     pub(crate) family: &'a str,
     pub(crate) table: &'a str,
     pub(crate) name: &'a str,
+}
+
+impl<'a> Model for Owner<'a> {
+    ghost use Rattle.nft_reader.specs.Chains.{Names};
+
+    ghost Value = { Names };
+
+    ghost view = { λ owner. record {
+      family = owner.family.now;
+      table = owner.table.now;
+      name = owner.name.now;
+    } };
 }
 
 /// A chain of a ruleset. Contracts see a record of its name, its policy, its rules and those of
@@ -56,18 +66,17 @@ impl Model for NftChain {
 
 impl NftChain {
     ghost use Rattle.std.specs.Prelude.{◌≡◌, [], IfOk, OnOk};
-    ghost use Rattle.nft_reader.specs.Chains.{is_meant, is_same, is_start, names_of};
-    ghost use Rattle.iptables_reader.specs.Packets.{all_caught, rules_of_caught};
-    ghost use Rattle.nft_reader.specs.Ruleset.{more_rules, with_fault, with_said, with_unread};
+    ghost use Rattle.nft_reader.specs.Chains.{is_meant, is_start};
+    ghost use Rattle.nft_reader.specs.Ruleset.{with_said};
 
     /// A chain of this name and this policy, without rules. It takes the memory of its names.
     pub(crate) fn new(
         alloc: Global,
-        owner: Owner<'_>,
+        owner: &Owner<'_>,
         policy: Option<u32>,
     ) -> Result<NftChain, AllocError>
         ensures { IfOk result (λ chain. chain
-            ≡ record { owner = names_of owner.entry; policy = policy; rules = []; faults = [] }) }
+            ≡ record { owner = owner.now; policy = policy; rules = []; faults = [] }) }
     {
         Ok(NftChain {
             family: copied(alloc, owner.family)?,
@@ -107,20 +116,14 @@ impl NftChain {
         self.faults.as_slice()
     }
 
-    /// Whether it has this name.
-    fn is_named(&self, owner: Owner<'_>) -> bool
-        ensures { result ≡ is_same self.now.owner (names_of owner.entry) }
+    /// Whether it has this name in the table, and no policy where it is meant that rules lead to it.
+    fn is_meant(&self, owner: &Owner<'_>, name: &str, led: bool) -> bool
+        ensures { result ≡ is_meant led (record (owner.now) { name = name.now }) self.now }
     {
         self.family.as_slice() == owner.family.as_bytes()
             && self.table.as_slice() == owner.table.as_bytes()
-            && self.name.as_slice() == owner.name.as_bytes()
-    }
-
-    /// Whether it has this name, and no policy where it is meant that rules lead to it.
-    fn is_meant(&self, owner: Owner<'_>, led: bool) -> bool
-        ensures { result ≡ is_meant led (names_of owner.entry) self.now }
-    {
-        self.is_named(owner) && !(led && self.policy.is_some())
+            && self.name.as_slice() == name.as_bytes()
+            && !(led && self.policy.is_some())
     }
 
     /// Whether it has this name, and packets come to it by themselves.
@@ -130,57 +133,20 @@ impl NftChain {
         self.name.as_slice() == name && self.policy.is_some()
     }
 
-    /// A rule that was read. One without a verdict changes nothing.
-    pub(crate) fn add_rule(
-        &mut self,
-        alloc: Global,
-        asked: Asked,
-        handle: u32,
-        reading: &Reading,
-    ) -> Result<(), AllocError>
-        ensures { OnOk result (self.new ≡ with_said asked handle reading.now self.old) }
-    {
-        if !reading.decides() {
-            return Ok(());
-        }
-        match reading.cause {
-            None => put_read(alloc, asked, handle, reading, &mut self.rules),
-            Some(kind) => {
-                let caught = caught_by(alloc, asked.family, &reading.compared)?;
-                self.put_fault(alloc, asked.family, handle, kind, &caught)
-            }
-        }
-    }
-
-    /// A rule that isn't read, of which nothing is known.
-    pub(crate) fn add_unread(
+    /// A rule more. It takes the memory of its packets.
+    pub(crate) fn add(
         &mut self,
         alloc: Global,
         family: Family,
         handle: u32,
-        kind: RuleKind,
+        said: &Said,
     ) -> Result<(), AllocError>
-        ensures { OnOk result (self.new ≡ with_unread family handle kind self.old) }
+        ensures { OnOk result (self.new ≡ with_said family handle said.now self.old) }
     {
-        let caught = Caught::all(alloc, family)?;
-        self.put_fault(alloc, family, handle, kind, &caught)
-    }
-
-    /// Puts a rule that no rule file says after the others.
-    fn put_fault(
-        &mut self,
-        alloc: Global,
-        family: Family,
-        handle: u32,
-        kind: RuleKind,
-        caught: &Caught,
-    ) -> Result<(), AllocError>
-        ensures { OnOk result (self.new ≡ with_fault handle kind
-            (more_rules (rules_of_caught family caught.now handle nowhere) self.old)) }
-    {
-        let target = Target::Jump(usize::MAX);
-        put_rules(alloc, family, caught, handle, target, &mut self.rules)?;
-        self.faults.push(RuleFault { handle, kind })?;
+        put_branches(&mut self.rules, alloc, family, &said.branches)?;
+        if let Some(kind) = said.cause {
+            self.faults.push(RuleFault { handle, kind })?;
+        }
         Ok(())
     }
 
@@ -192,57 +158,21 @@ impl NftChain {
     }
 }
 
-/// Puts the rules of packets of which something becomes after others.
-fn put_acted(
-    alloc: Global,
-    asked: Asked,
-    handle: u32,
-    caught: &Caught,
-    act: Act,
-    rules: &mut Vec<ChainRule>,
-) -> Result<(), AllocError>
-    ensures { OnOk result
-        (rules.new.items ≡ rules.old.items ++ acted_rules asked handle caught.now act) }
-{
-    let answer = act_answer(asked.answers, handle, act);
-    put_rules(alloc, asked.family, caught, answer, act_target(act), rules)
-}
-
-/// Puts the rules of the branches of a map after others.
+/// Puts the rules of the branches of a rule after others.
 fn put_branches(
-    alloc: Global,
-    asked: Asked,
-    handle: u32,
-    branches: &[Branch],
     rules: &mut Vec<ChainRule>,
+    alloc: Global,
+    family: Family,
+    branches: &[Branch],
 ) -> Result<(), AllocError>
     ensures { OnOk result (rules.new.items
-        ≡ rules.old.items ++ flat_map (branch_rules asked handle) branches.now) }
+        ≡ rules.old.items ++ flat_map (branch_rules family) branches.now) }
 {
     for branch in branches {
-        put_acted(alloc, asked, handle, &branch.caught, branch.act, rules)?;
+        let Outcome { answer, target } = branch.does;
+        put_rules(alloc, family, &branch.caught, answer, target, rules)?;
     }
     Ok(())
-}
-
-/// Puts the rules of a rule after others.
-fn put_read(
-    alloc: Global,
-    asked: Asked,
-    handle: u32,
-    reading: &Reading,
-    rules: &mut Vec<ChainRule>,
-) -> Result<(), AllocError>
-    ensures { OnOk result (rules.new.items
-        ≡ rules.old.items ++ read_rules asked handle reading.now reading.now.act) }
-{
-    match reading.act {
-        Some(act) => {
-            let caught = caught_by(alloc, asked.family, &reading.compared)?;
-            put_acted(alloc, asked, handle, &caught, act, rules)
-        }
-        None => put_branches(alloc, asked, handle, &reading.branches, rules),
-    }
 }
 
 /// A copy of the bytes of a text.
@@ -254,13 +184,20 @@ fn copied(alloc: Global, text: &str) -> Result<Vec<u8>, AllocError>
     Ok(bytes)
 }
 
-/// The place of the chain of a name. Where it is meant that rules lead to it, it has no policy.
-pub(crate) fn place_of(chains: &[NftChain], owner: Owner<'_>, led: bool) -> Option<usize>
-    ensures place { result ≡ place_of led (names_of owner.entry) chains.now }
+/// The place of the chain of a name in the table of another one. Where it is meant that rules lead
+/// to it, it has no policy.
+pub(crate) fn place_of(
+    chains: &[NftChain],
+    owner: &Owner<'_>,
+    name: &str,
+    led: bool,
+) -> Option<usize>
+    ensures place { result
+        ≡ place_of led (record (owner.now) { name = name.now }) chains.now }
     ensures within { IfSome result (λ place. place < length chains.now) }
 {
     for place in 0..chains.len() {
-        if chains[place].is_meant(owner, led) {
+        if chains[place].is_meant(owner, name, led) {
             return Some(place);
         }
     }
@@ -294,50 +231,6 @@ fn start_from(chains: &[NftChain], name: &[u8], from: usize) -> Option<usize>
         }
     }
     None
-}
-
-/// The answer of a verdict of a rule or a policy with a handle.
-pub(crate) fn answer_of(answers: Answers, handle: u32, verdict: Verdict) -> u32
-    ensures { result ≡ answer_of answers handle verdict }
-{
-    match answers {
-        Answers::Handle => handle,
-        Answers::Verdict => verdict_answer(verdict),
-    }
-}
-
-/// The number of a verdict.
-fn verdict_answer(verdict: Verdict) -> u32
-    ensures { result ≡ verdict_answer verdict }
-{
-    match verdict {
-        Verdict::Accept => 1,
-        Verdict::Drop => 2,
-        Verdict::Reject => 3,
-        Verdict::Return => 0,
-    }
-}
-
-/// What a rule answers for the packets that it decides.
-fn act_answer(answers: Answers, handle: u32, act: Act) -> u32
-    ensures { result ≡ act_answer answers handle act }
-{
-    match act {
-        Act::Decide(verdict) => answer_of(answers, handle, verdict),
-        Act::Jump(_) | Act::Go(_) => handle,
-    }
-}
-
-/// What a rule does with the packets that it catches.
-fn act_target(act: Act) -> Target
-    ensures { result ≡ act_target act }
-{
-    match act {
-        Act::Decide(Verdict::Return) => Target::Return,
-        Act::Decide(Verdict::Accept | Verdict::Drop | Verdict::Reject) => Target::Decide,
-        Act::Jump(place) => Target::Jump(place),
-        Act::Go(place) => Target::Go(place),
-    }
 }
 
 /// The chains as `list_chains` takes them. It takes the memory of a chain for each.

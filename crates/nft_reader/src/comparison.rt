@@ -1,8 +1,7 @@
 //! What a rule compares, and the packets that it catches by that.
 
-ghost use Rattle.std.specs.Prelude.{◌≡◌, IfOk, OnOk};
-ghost use Rattle.nft_reader.specs.Comparisons.{are_ported, caught_by, has_other, is_other};
-ghost use Rattle.nft_reader.specs.Comparisons.{is_ported, narrowed};
+ghost use Rattle.std.specs.Prelude.{◌≡◌, IfOk};
+ghost use Rattle.nft_reader.specs.Comparisons as comparisons;
 
 use field_defs::Family;
 use iptables_reader::{Caught, Packets};
@@ -14,8 +13,8 @@ use std::marker::Model;
 /// both.
 #[derive(Drop)]
 pub(crate) struct Comparison {
-    negated: bool,
-    boxes: Vec<Packets>,
+    pub(crate) negated: bool,
+    pub(crate) boxes: Vec<Packets>,
 }
 
 impl Model for Comparison {
@@ -34,14 +33,14 @@ const LAST: u64 = 255;
 
 /// Whether a span of protocols is neither that of all nor that of one alone.
 fn is_other(number: u64, span: Span) -> bool
-    ensures { result ≡ is_other number span }
+    ensures { result ≡ comparisons.is_other number span }
 {
     !(span.low == 0 && span.high == LAST) && !(span.low == number && span.high == number)
 }
 
-/// Whether the protocols of one of the boxes are so.
+/// Whether the protocols of one of some boxes are so.
 fn has_other(number: u64, boxes: &[Packets]) -> bool
-    ensures { result ≡ has_other number boxes.now }
+    ensures { result ≡ comparisons.has_other number boxes.now }
 {
     boxes
         .iter()
@@ -50,46 +49,39 @@ fn has_other(number: u64, boxes: &[Packets]) -> bool
 
 /// Whether a span is that of a protocol whose ports keys have.
 fn is_ported(span: Span) -> bool
-    ensures { result ≡ is_ported span }
+    ensures { result ≡ comparisons.is_ported span }
 {
     span.low == span.high && (span.low == 6 || span.low == 17 || span.low == 132)
 }
 
 /// Whether each of some boxes has one.
 pub(crate) fn are_ported(boxes: &[Packets]) -> bool
-    ensures { result ≡ are_ported boxes.now }
+    ensures { result ≡ comparisons.are_ported boxes.now }
 {
     boxes.iter().all(|packets| is_ported(packets.protocol))
 }
 
 impl Comparison {
     ghost use Rattle.std.specs.Prelude.{◌≡◌, OnOk};
-    ghost use Rattle.nft_reader.specs.Comparisons.{leaves_ported, names_other, narrowed};
-
-    /// A comparison with some boxes.
-    pub(crate) fn new(negated: bool, boxes: Vec<Packets>) -> Comparison
-        ensures { result ≡ record { negated = negated; boxes = boxes.items } }
-    {
-        Comparison { negated, boxes }
-    }
+    ghost use Rattle.nft_reader.specs.Comparisons as comparisons;
 
     /// Whether it names protocols, of which one isn't this one.
     pub(crate) fn names_other(&self, number: u64) -> bool
-        ensures { result ≡ names_other number self.now }
+        ensures { result ≡ comparisons.names_other number self.now }
     {
         !self.negated && has_other(number, &self.boxes)
     }
 
     /// Whether it leaves no packets of other protocols than those with ports.
     pub(crate) fn leaves_ported(&self) -> bool
-        ensures { result ≡ leaves_ported self.now }
+        ensures { result ≡ comparisons.leaves_ported self.now }
     {
         !self.negated && are_ported(&self.boxes)
     }
 
     /// Leaves of some packets those that it is true of.
     fn narrow(&self, alloc: Global, caught: &mut Caught) -> Result<(), AllocError>
-        ensures { OnOk result (caught.new ≡ narrowed caught.old self.now) }
+        ensures { OnOk result (caught.new ≡ comparisons.narrowed caught.old self.now) }
     {
         caught.take(alloc, self.negated, &self.boxes)
     }
@@ -101,7 +93,7 @@ pub(crate) fn caught_by(
     family: Family,
     compared: &[Comparison],
 ) -> Result<Caught, AllocError>
-    ensures { IfOk result (λ caught. caught ≡ caught_by family compared.now) }
+    ensures { IfOk result (λ caught. caught ≡ comparisons.caught_by family compared.now) }
 {
     let mut caught = Caught::all(alloc, family)?;
     for comparison in compared {

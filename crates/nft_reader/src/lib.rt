@@ -7,18 +7,16 @@
 //! | module | what it holds |
 //! |---|---|
 //! | `shapes` | the members of objects and the items of arrays |
-//! | `values`, `addresses` | the right side of a comparison: values, prefixes, ranges and sets |
-//! | `boxes` | boxes of the packets that a comparison is true of |
+//! | `values` | the right side of a comparison: values, prefixes, ranges and sets; their packets |
 //! | `compared` | its left side: fields of headers, and what is known beside them |
+//! | `assumed` | comparisons with what is known or assumed of packets |
 //! | `comparison` | what a rule compares, and the packets that it catches by that |
-//! | `assumed` | comparisons with what is assumed of packets |
+//! | `keys` | comparisons of one thing, and of several together |
 //! | `sets` | named sets of a ruleset |
-//! | `keys`, `together` | several things that are compared together |
 //! | `maps` | maps to verdicts, element by element |
-//! | `reading`, `comparing` | a rule, statement by statement |
 //! | `known` | what is asked, and what is known where a rule is read |
+//! | `reading` | a rule, statement by statement |
 //! | `chain` | a chain: its name, its policy and its rules |
-//! | `parts` | what the objects of chains and rules say |
 //! | `ruleset` | a ruleset, object by object, and its chains |
 //! | `fault` | why objects aren't read, and rules aren't said |
 //! | `laws` | what members that are counted tell |
@@ -26,24 +24,19 @@
 //! Source: the manual pages nft(8) and libnftables-json(5).
 #![tactic(auto)]
 
-mod addresses;
 mod assumed;
-mod boxes;
 mod chain;
 mod compared;
-mod comparing;
 mod comparison;
 mod fault;
 mod keys;
 mod known;
 mod laws;
 mod maps;
-mod parts;
 mod reading;
 mod ruleset;
 mod sets;
 mod shapes;
-mod together;
 mod values;
 
 pub use chain::{NftChain, chains_alone, start_of};

@@ -1,50 +1,32 @@
 //! A rule, statement by statement.
 
-ghost use Rattle.std.specs.Prelude.{◌≡◌, map, MatchResult, Ok};
-ghost use Rattle.json.specs.Value.{value_view};
-ghost use Rattle.nft_reader.specs.Known.{known_of};
-ghost use Rattle.nft_reader.specs.Readings.{no_reading, with_statements};
-ghost use Rattle.nft_reader.specs.Stops.{RefusesRule};
+ghost use Rattle.std.specs.Prelude.{◌≡◌, option_map};
+ghost use Rattle.json.specs.Value.{value_view as view};
+ghost use Rattle.nft_reader.specs.Readings as readings;
+ghost use Rattle.nft_reader.specs.Shapes.{text_seen};
 
-use crate::compared::is_of;
-use crate::comparison::Comparison;
-use crate::fault::{RuleKind, RuleStop};
-use crate::known::{Known, Question, led_place};
-use crate::maps::{Branch, looked_up};
+use crate::compared::{is_of, protocol_in};
+use crate::comparison::{Comparison, caught_by};
+use crate::fault::{RuleKind, Stop};
+use crate::keys::protocol_packets;
+use crate::known::{Branch, Known, Outcome};
 use crate::shapes::{len_of, only, text_in};
-use field_defs::Family;
+use iptables_reader::{Caught, Packets};
 use json::Value;
-use std::alloc::{AllocError, Global};
+use list_chains::Target;
+use std::alloc::AllocError;
 use std::marker::Model;
-
-/// What a rule says of the packets that it decides.
-#[derive(Clone, Copy)]
-pub(crate) enum Verdict {
-    Accept,
-    Drop,
-    Reject,
-    Return,
-}
-
-/// What becomes of the packets that a rule catches. Chains are named by their places.
-#[derive(Clone, Copy)]
-pub(crate) enum Act {
-    Decide(Verdict),
-    Jump(usize),
-    Go(usize),
-}
 
 /// What a rule says so far. Contracts see a record of its parts.
 #[derive(Drop)]
 pub(crate) struct Reading {
-    pub(crate) compared: Vec<Comparison>,
+    compared: Vec<Comparison>,
     /// Why no rule file says it.
-    pub(crate) cause: Option<RuleKind>,
-    pub(crate) act: Option<Act>,
-    /// What becomes of the packets of a map's elements.
-    pub(crate) branches: Vec<Branch>,
-    /// Whether there is a map.
-    pub(crate) looked: bool,
+    cause: Option<RuleKind>,
+    /// What becomes of packets.
+    branches: Vec<Branch>,
+    /// Whether it has a verdict or a map.
+    decides: bool,
 }
 
 impl Model for Reading {
@@ -55,44 +37,39 @@ impl Model for Reading {
     ghost view = { λ reading. record {
       compared = reading.compared.items;
       cause = reading.cause;
-      act = reading.act;
       branches = reading.branches.items;
-      looked = reading.looked;
+      decides = reading.decides;
     } };
+}
+
+/// What a rule says: what becomes of packets, and why no rule file says it. Contracts see a record
+/// of both.
+#[derive(Drop)]
+pub(crate) struct Said {
+    pub(crate) branches: Vec<Branch>,
+    pub(crate) cause: Option<RuleKind>,
+}
+
+impl Model for Said {
+    ghost use Rattle.nft_reader.specs.Readings.{SaidRule};
+
+    ghost Value = { SaidRule };
+
+    ghost view = { λ said. record { branches = said.branches.items; cause = said.cause } };
 }
 
 /// The protocol of TCP.
 const TCP: u64 = 6;
 
 impl Reading {
-    ghost use Rattle.std.specs.Prelude.{◌≡◌, IfErr, OnOk, Ok};
-    ghost use Rattle.json.specs.Value.{value_view};
-    ghost use Rattle.nft_reader.specs.Known.{known_of};
+    ghost use Rattle.std.specs.Prelude.{◌≡◌, IfOk, OnOk};
+    ghost use Rattle.json.specs.Value.{value_view as view};
+    ghost use Rattle.nft_reader.specs.Known.{asked_of, known_of};
     ghost use Rattle.nft_reader.specs.Readings as readings;
-    ghost use Rattle.nft_reader.specs.Stops.{RefusesRule};
-
-    /// Nothing was read of a rule.
-    pub(crate) fn new(alloc: Global) -> Reading
-        ensures { result ≡ readings.no_reading }
-    {
-        Reading {
-            compared: Vec::new(alloc),
-            cause: None,
-            act: None,
-            branches: Vec::new(alloc),
-            looked: false,
-        }
-    }
-
-    /// Whether packets may be decided by it.
-    pub(crate) fn decides(&self) -> bool
-        ensures { result ≡ readings.decides self.now }
-    {
-        self.act.is_some() || self.looked
-    }
+    ghost use Rattle.nft_reader.specs.Stops.{Leaves};
 
     /// A cause why no rule file says it, of which the first counts.
-    pub(crate) fn put_cause(&mut self, kind: RuleKind)
+    fn put_cause(&mut self, kind: RuleKind)
         ensures { self.new ≡ readings.with_cause kind self.old }
     {
         if self.cause.is_none() {
@@ -100,13 +77,42 @@ impl Reading {
         }
     }
 
-    /// Whether a comparison names protocols, of which one isn't TCP.
-    fn names_others(&self) -> bool
-        ensures { result ≡ readings.names_others self.now }
+    /// Packets in one of some boxes.
+    fn keep(&mut self, boxes: Vec<Packets>) -> Result<(), AllocError>
+        ensures { OnOk result (self.new ≡ readings.with_packets boxes.items self.old) }
     {
-        self.compared
-            .iter()
-            .any(|comparison| comparison.names_other(TCP))
+        self.compared.push(Comparison {
+            negated: false,
+            boxes,
+        })?;
+        Ok(())
+    }
+
+    /// Packets of a protocol, if there is one.
+    fn keep_protocol(
+        &mut self,
+        known: &Known<'_, '_, '_>,
+        protocol: Option<u64>,
+    ) -> Result<(), AllocError>
+        ensures { OnOk result (self.new
+            ≡ readings.of_protocol (asked_of known.now).family protocol self.old) }
+    {
+        let Some(number) = protocol else {
+            return Ok(());
+        };
+        let mut boxes = Vec::new(known.alloc);
+        boxes.push(protocol_packets(known.asked.family, number))?;
+        self.keep(boxes)
+    }
+
+    /// All of the packets, or none.
+    fn keep_if(&mut self, known: &Known<'_, '_, '_>, is_so: bool) -> Result<(), AllocError>
+        ensures { OnOk result (self.new ≡ readings.of_truth is_so self.old) }
+    {
+        if is_so {
+            return Ok(());
+        }
+        self.keep(Vec::new(known.alloc))
     }
 
     /// Whether a comparison leaves packets alone whose protocols have ports.
@@ -119,204 +125,262 @@ impl Reading {
     }
 
     /// What is known after its comparisons.
-    pub(crate) fn told<'k, 's, 'a>(&self, known: Known<'k, 's, 'a>) -> Known<'k, 's, 'a>
-        ensures { known_of result ≡ readings.told (known_of known.entry) self.now }
+    fn told<'k, 's, 'a>(&self, known: &Known<'k, 's, 'a>) -> Known<'k, 's, 'a>
+        ensures { known_of result ≡ readings.told (known_of known.now) self.now }
     {
-        let question = Question {
+        Known {
+            alloc: known.alloc,
+            asked: known.asked,
+            assumed: known.assumed,
+            sets: known.sets,
+            chains: known.chains,
+            owner: known.owner,
+            handle: known.handle,
             ported: self.keeps_ported(),
-            ..known.question
-        };
-        Known { question, ..known }
+        }
     }
 
-    /// A verdict.
-    fn decide(&mut self, verdict: Verdict)
-        ensures { self.new ≡ readings.decided verdict self.old }
+    /// A comparison, of packets of the protocol that have what it compares.
+    fn add_match<'a>(
+        &mut self,
+        known: &Known<'_, '_, 'a>,
+        said: &Value<'a>,
+    ) -> Result<(), AllocError>
+        ensures { OnOk result
+            (self.new ≡ readings.with_match (known_of known.now) (view said.now) self.old) }
     {
-        self.act = Some(Act::Decide(verdict));
+        let compared = self.told(known).compared(said);
+        self.keep_protocol(known, protocol_in(known.asked.family, said))?;
+        match compared {
+            Ok(comparison) => self.compared.push(comparison)?,
+            Err(Stop::Told(kind)) => self.put_cause(kind),
+            Err(Stop::OutOfMemory) => return Err(AllocError),
+        }
+        Ok(())
+    }
+
+    /// What becomes of the packets that it catches.
+    fn decide(&mut self, known: &Known<'_, '_, '_>, does: Outcome) -> Result<(), AllocError>
+        ensures { OnOk result
+            (self.new ≡ readings.decided (asked_of known.now).family does self.old) }
+    {
+        let caught = caught_by(known.alloc, known.asked.family, &self.compared)?;
+        self.branches.push(Branch { caught, does })?;
+        self.decides = true;
+        Ok(())
+    }
+
+    /// Whether a comparison names protocols, of which one isn't TCP.
+    fn names_others(&self) -> bool
+        ensures { result ≡ readings.names_others self.now }
+    {
+        self.compared
+            .iter()
+            .any(|comparison| comparison.names_other(TCP))
     }
 
     /// Packets of TCP alone, which get a reset. If the rule names other protocols too, the kernel
     /// drops their packets, and no rule file says it.
-    fn keep_reset(&mut self, alloc: Global, family: Family) -> Result<(), AllocError>
-        ensures { OnOk result (self.new ≡ readings.of_reset family self.old) }
+    fn keep_reset(&mut self, known: &Known<'_, '_, '_>) -> Result<(), AllocError>
+        ensures { OnOk result
+            (self.new ≡ readings.of_reset (asked_of known.now).family self.old) }
     {
         if self.names_others() {
             self.put_cause(RuleKind::CantSay);
             return Ok(());
         }
-        self.keep_protocol(alloc, family, TCP)
+        self.keep_protocol(known, Some(TCP))
     }
 
-    /// An answer to the sender, of a type.
-    fn reject_by(
-        &mut self,
-        alloc: Global,
-        family: Family,
-        kind: Option<&str>,
-    ) -> Result<(), RuleStop>
-        ensures ok { OnOk result
-            (readings.rejected_by family self.old (readings.text_of kind.entry) ≡ Ok self.new) }
-        ensures err { IfErr result
-            (RefusesRule (readings.rejected_by family self.old (readings.text_of kind.entry))) }
+    /// Packets that get an answer of a type.
+    fn keep_answered(&mut self, known: &Known<'_, '_, '_>, kind: &str) -> Result<(), Stop<RuleKind>>
+        ensures { Leaves result self.new
+            (readings.of_answer (asked_of known.now).family kind.now self.old) }
     {
         match kind {
-            Some("icmpx") => {}
-            Some("icmp") => self.keep_if(alloc, is_of(family, true))?,
-            Some("icmpv6") => self.keep_if(alloc, is_of(family, false))?,
-            Some("tcp reset") => self.keep_reset(alloc, family)?,
-            _ => return Err(RuleStop::Unsaid(RuleKind::BadStatement)),
+            "icmpx" => {}
+            "icmp" => self.keep_if(known, is_of(known.asked.family, true))?,
+            "icmpv6" => self.keep_if(known, is_of(known.asked.family, false))?,
+            "tcp reset" => self.keep_reset(known)?,
+            _ => return Err(Stop::Told(RuleKind::BadStatement)),
         }
-        self.decide(Verdict::Reject);
         Ok(())
     }
 
-    /// An answer to the sender, of a type or of the usual one.
-    fn reject(&mut self, alloc: Global, family: Family, said: &Value<'_>) -> Result<(), RuleStop>
-        ensures ok { OnOk result
-            (readings.rejected family (value_view said.now) self.old ≡ Ok self.new) }
-        ensures err { IfErr result
-            (RefusesRule (readings.rejected family (value_view said.now) self.old)) }
+    /// An answer to the sender.
+    fn reject(&mut self, known: &Known<'_, '_, '_>, said: &Value<'_>) -> Result<(), Stop<RuleKind>>
+        ensures { Leaves result self.new
+            (readings.rejected (known_of known.now) (view said.now) self.old) }
     {
-        if len_of(said) == 0 {
-            self.decide(Verdict::Reject);
-            return Ok(());
-        }
-        self.reject_by(alloc, family, text_in("type", said))
-    }
-
-    /// A statement that says nothing but its name.
-    fn add_word(&mut self, name: &str) -> Result<(), RuleStop>
-        ensures ok { OnOk result (readings.with_word name.now self.old ≡ Ok self.new) }
-        ensures err { IfErr result (RefusesRule (readings.with_word name.now self.old)) }
-    {
-        match name {
-            "counter" | "log" | "continue" => Ok(()),
-            "limit" => {
-                self.put_cause(RuleKind::Rate);
-                Ok(())
-            }
-            "set" => {
-                self.put_cause(RuleKind::ChangingSet);
-                Ok(())
-            }
-            _ => Err(RuleStop::Unsaid(RuleKind::UnknownStatement)),
-        }
-    }
-
-    /// A verdict, or such a statement.
-    fn add_verdict(&mut self, name: &str) -> Result<(), RuleStop>
-        ensures ok { OnOk result (readings.with_verdict name.now self.old ≡ Ok self.new) }
-        ensures err { IfErr result (RefusesRule (readings.with_verdict name.now self.old)) }
-    {
-        match name {
-            "accept" => self.decide(Verdict::Accept),
-            "drop" => self.decide(Verdict::Drop),
-            "return" => self.decide(Verdict::Return),
-            _ => return self.add_word(name),
-        }
+        let kind = answer_type(said).ok_or(RuleKind::BadStatement)?;
+        self.keep_answered(known, kind)?;
+        self.decide(known, known.decision(3))?;
         Ok(())
     }
 
     /// What becomes of the packets of a map's elements.
-    fn add_map(
+    fn add_map<'a>(
         &mut self,
-        alloc: Global,
-        known: Known<'_, '_, '_>,
-        said: &Value<'_>,
-    ) -> Result<(), RuleStop>
-        ensures ok { OnOk result (readings.with_map (known_of known.entry) (value_view said.now)
-            self.old ≡ Ok self.new) }
-        ensures err { IfErr result (RefusesRule (readings.with_map (known_of known.entry)
-            (value_view said.now) self.old)) }
+        known: &Known<'_, '_, 'a>,
+        said: &Value<'a>,
+    ) -> Result<(), Stop<RuleKind>>
+        ensures { Leaves result self.new
+            (readings.with_map (known_of known.now) (view said.now) self.old) }
     {
-        let looking = looked_up(alloc, self.told(known), said, &self.compared)?;
-        self.branches = looking.into_branches();
-        self.looked = true;
+        let looking = self.told(known).looked_up(said, &self.compared)?;
+        self.branches = looking.branches;
+        self.decides = true;
         Ok(())
     }
 
-    /// A jump, or another statement.
-    fn add_lead(
+    /// A verdict, unless packets go on.
+    fn add_verdict(
         &mut self,
-        known: Known<'_, '_, '_>,
+        known: &Known<'_, '_, '_>,
         name: &str,
         said: &Value<'_>,
-    ) -> Result<(), RuleStop>
-        ensures ok { OnOk result (readings.with_lead (known_of known.entry) name.now
-            (value_view said.now) self.old ≡ Ok self.new) }
-        ensures err { IfErr result (RefusesRule (readings.with_lead (known_of known.entry)
-            name.now (value_view said.now) self.old)) }
+    ) -> Result<(), Stop<RuleKind>>
+        ensures { Leaves result self.new
+            (readings.with_verdict (known_of known.now) name.now (view said.now) self.old) }
+    {
+        if let Some(does) = known.outcome_of(name, said)? {
+            self.decide(known, does)?;
+        }
+        Ok(())
+    }
+
+    /// A statement that says nothing but its name, or a verdict.
+    fn add_word(
+        &mut self,
+        known: &Known<'_, '_, '_>,
+        name: &str,
+        said: &Value<'_>,
+    ) -> Result<(), Stop<RuleKind>>
+        ensures { Leaves result self.new
+            (readings.with_word (known_of known.now) name.now (view said.now) self.old) }
     {
         match name {
-            "jump" => self.act = Some(Act::Jump(led_place(known, said)?)),
-            "goto" => self.act = Some(Act::Go(led_place(known, said)?)),
-            _ => return self.add_verdict(name),
+            "counter" | "log" => {}
+            "limit" => self.put_cause(RuleKind::Rate),
+            "set" => self.put_cause(RuleKind::ChangingSet),
+            _ => return self.add_verdict(known, name, said),
         }
         Ok(())
     }
 
     /// A statement by its name and what it says.
-    fn add_named(
+    fn add_named<'a>(
         &mut self,
-        alloc: Global,
-        known: Known<'_, '_, '_>,
+        known: &Known<'_, '_, 'a>,
         name: &str,
-        said: &Value<'_>,
-    ) -> Result<(), RuleStop>
-        ensures ok { OnOk result (readings.with_named (known_of known.entry) name.now
-            (value_view said.now) self.old ≡ Ok self.new) }
-        ensures err { IfErr result (RefusesRule (readings.with_named (known_of known.entry)
-            name.now (value_view said.now) self.old)) }
+        said: &Value<'a>,
+    ) -> Result<(), Stop<RuleKind>>
+        ensures { Leaves result self.new
+            (readings.with_named (known_of known.now) name.now (view said.now) self.old) }
     {
         match name {
             "match" => {
-                self.add_match(alloc, known, said)?;
+                self.add_match(known, said)?;
                 Ok(())
             }
-            "reject" => self.reject(alloc, known.question.asked.family, said),
-            "vmap" => self.add_map(alloc, known, said),
-            _ => self.add_lead(known, name, said),
+            "reject" => self.reject(known, said),
+            "vmap" => self.add_map(known, said),
+            _ => self.add_word(known, name, said),
         }
     }
 
     /// A statement, which doesn't stand after one that decides, or after a map.
-    fn add_statement(
+    fn add_statement<'a>(
         &mut self,
-        alloc: Global,
-        known: Known<'_, '_, '_>,
-        statement: &Value<'_>,
-    ) -> Result<(), RuleStop>
-        ensures ok { OnOk result (readings.with_statement (known_of known.entry)
-            self.old (value_view statement.now) ≡ Ok self.new) }
-        ensures err { IfErr result (RefusesRule (readings.with_statement (known_of known.entry)
-            self.old (value_view statement.now))) }
+        known: &Known<'_, '_, 'a>,
+        statement: &Value<'a>,
+    ) -> Result<(), Stop<RuleKind>>
+        ensures { Leaves result self.new
+            (readings.with_statement (known_of known.now) self.old (view statement.now)) }
     {
-        if self.decides() {
-            return Err(RuleStop::Unsaid(RuleKind::AfterVerdict));
+        if self.decides {
+            return Err(Stop::Told(RuleKind::AfterVerdict));
         }
-        match only(statement) {
-            Some((name, said)) => self.add_named(alloc, known, name, said),
-            None => Err(RuleStop::Unsaid(RuleKind::BadStatement)),
+        let (name, said) = only(statement).ok_or(RuleKind::BadStatement)?;
+        self.add_named(known, name, said)
+    }
+
+    /// What the rule says, unless there is a cause why no rule file says it.
+    fn into_said(self, known: &Known<'_, '_, '_>) -> Result<Said, AllocError>
+        ensures { IfOk result (λ said. said ≡ readings.said_if (known_of known.now) self self.cause) }
+    {
+        match self.cause {
+            Some(kind) if self.decides => {
+                let caught = caught_by(known.alloc, known.asked.family, &self.compared)?;
+                known.unsaid(kind, caught)
+            }
+            _ => Ok(Said {
+                branches: self.branches,
+                cause: None,
+            }),
         }
     }
 }
 
-/// The statements of a rule.
-pub(crate) fn read_statements(
-    alloc: Global,
-    known: Known<'_, '_, '_>,
-    statements: &[Value<'_>],
-) -> Result<Reading, RuleStop>
-    ensures { MatchResult result
-        (λ reading. with_statements (known_of known.entry) no_reading
-        (map value_view statements.now) ≡ Ok reading)
-        (RefusesRule (with_statements (known_of known.entry) no_reading
-        (map value_view statements.now))) }
+/// The type of an answer. The usual one is that of both families.
+fn answer_type<'a>(said: &Value<'a>) -> Option<&'a str>
+    ensures { option_map text_seen result ≡ readings.answer_type (view said.now) }
 {
-    let mut reading = Reading::new(alloc);
-    for statement in statements {
-        reading.add_statement(alloc, known, statement)?;
+    if len_of(said) == 0 {
+        return Some("icmpx");
     }
-    Ok(reading)
+    text_in("type", said)
+}
+
+impl<'k, 's, 'a> Known<'k, 's, 'a> {
+    ghost use Rattle.std.specs.Prelude.{◌≡◌, map, IfOk};
+    ghost use Rattle.json.specs.Value.{value_view as view};
+    ghost use Rattle.nft_reader.specs.Known.{asked_of, known_of};
+    ghost use Rattle.nft_reader.specs.Readings as readings;
+    ghost use Rattle.nft_reader.specs.Stops.{Gives, folded};
+
+    /// A rule that no rule file says: its packets are led to no chain.
+    fn unsaid(&self, kind: RuleKind, caught: Caught) -> Result<Said, AllocError>
+        ensures { IfOk result (λ said. said ≡ readings.unsaid (known_of self.now) kind caught) }
+    {
+        let does = Outcome {
+            answer: self.handle,
+            target: Target::Jump(usize::MAX),
+        };
+        let mut branches = Vec::new(self.alloc);
+        branches.push(Branch { caught, does })?;
+        Ok(Said {
+            branches,
+            cause: Some(kind),
+        })
+    }
+
+    /// The statements of a rule, one after the other.
+    fn read_all(&self, statements: &[Value<'a>]) -> Result<Reading, Stop<RuleKind>>
+        ensures { Gives result (folded (readings.with_statement (known_of self.now)) readings.no_reading
+            (map view statements.now)) }
+    {
+        let mut reading = Reading {
+            compared: Vec::new(self.alloc),
+            cause: None,
+            branches: Vec::new(self.alloc),
+            decides: false,
+        };
+        for statement in statements {
+            reading.add_statement(self, statement)?;
+        }
+        Ok(reading)
+    }
+
+    /// What the statements of a rule say.
+    pub(crate) fn read(&self, statements: &[Value<'a>]) -> Result<Said, AllocError>
+        ensures { IfOk result
+            (λ said. said ≡ readings.with_statements (known_of self.now) (map view statements.now)) }
+    {
+        match self.read_all(statements) {
+            Ok(reading) => reading.into_said(self),
+            Err(Stop::Told(kind)) => self.unsaid(kind, Caught::all(self.alloc, self.asked.family)?),
+            Err(Stop::OutOfMemory) => Err(AllocError),
+        }
+    }
 }

@@ -1,22 +1,17 @@
 //! A ruleset, object by object: its chains for the packets of a family.
 
-ghost use Rattle.std.specs.Prelude.{◌≡◌, ◌<◌, [], length, map, nat_lt, IfErr, IfOk};
-ghost use Rattle.std.specs.Prelude.{OnOk, MatchResult, MatchOption, Some, None, Ok, Err};
-ghost use Rattle.std.specs.Str.{IsUtf8, is_utf8};
-ghost use Rattle.json.specs.Json.{document};
-ghost use Rattle.json.specs.Value.{value_view};
-ghost use Rattle.nft_reader.specs.Chains.{names_of};
-ghost use Rattle.nft_reader.specs.Known.{question_of, setting_of};
+ghost use Rattle.std.specs.Prelude.{◌≡◌, length, map, nat_lt, IfErr, IfOk, Ok, option_map};
+ghost use Rattle.json.specs.Value.{value_view as view};
 ghost use Rattle.nft_reader.specs.Ruleset as listed;
-ghost use Rattle.nft_reader.specs.Stops.{IsToldOf, Refuses, fault_of};
+ghost use Rattle.nft_reader.specs.Shapes.{all_seen, text_seen};
+ghost use Rattle.nft_reader.specs.Stops.{IsToldOf};
 
-use crate::chain::{NftChain, place_of};
-use crate::fault::{NftFault, ObjectFault, ObjectKind, RuleStop, Stop};
-use crate::known::{Asked, Known, Question, Setting};
-use crate::parts::{ChainParts, RuleParts, chain_parts, rule_parts};
-use crate::reading::read_statements;
-use crate::sets::sets_of;
-use crate::shapes::{items_of, only, text_in};
+use crate::chain::{NftChain, Owner, place_of};
+use crate::compared::own_name;
+use crate::fault::{NftFault, ObjectFault, ObjectKind, Stop};
+use crate::known::{Answers, Asked, Known, Setting, answer_of, policy_named};
+use crate::sets::{owner_in, sets_of};
+use crate::shapes::{items_in, items_of, len_of, number_in, only, present, said_by, text_in};
 use field_defs::Family;
 use json::{Error, Scratch, Value};
 use std::alloc::{AllocError, Global};
@@ -24,331 +19,275 @@ use std::alloc::{AllocError, Global};
 /// How many bytes a ruleset may have.
 pub const MAX_RULESET: usize = 16_777_216;
 
-/// Puts a rule after the others of its chain, which has the place.
-fn put_rule(
-    alloc: Global,
-    setting: Setting<'_, '_, '_>,
-    chains: &mut Vec<NftChain>,
-    parts: RuleParts<'_, '_>,
-    place: usize,
-) -> Result<(), AllocError>
-    requires { place < length chains.old.items }
-    ensures { OnOk result
-        (chains.new.items ≡ listed.with_rule_at (setting_of setting.entry) (record {
-          owner = names_of parts.entry.owner;
-          handle = parts.entry.handle;
-          statements = map value_view parts.entry.statements.now;
-        }) chains.old.items place) }
+/// The greatest handle.
+const MAX_HANDLE: u64 = 4_294_967_295;
+
+/// What a rule says: its chain, its handle and its statements.
+#[derive(Drop)]
+struct RuleParts<'v, 'a> {
+    owner: Owner<'v>,
+    handle: u32,
+    statements: &'v [Value<'a>],
+}
+
+/// Whether a rule has five members, or a comment beside them.
+fn has_rule_members(said: &Value<'_>) -> bool
+    ensures { result ≡ listed.has_rule_members (view said.now) }
 {
-    let asked = setting.question.asked;
-    let known = Known {
-        question: setting.question,
-        sets: setting.sets,
-        chains,
-        owner: parts.owner,
-    };
-    match read_statements(alloc, known, parts.statements) {
-        Ok(reading) => chains[place].add_rule(alloc, asked, parts.handle, &reading),
-        Err(RuleStop::Unsaid(kind)) => {
-            chains[place].add_unread(alloc, asked.family, parts.handle, kind)
-        }
-        Err(RuleStop::OutOfMemory) => Err(AllocError),
+    len_of(said) == 5 || (len_of(said) == 6 && text_in("comment", said).is_some())
+}
+
+/// The handle of a chain or a rule.
+fn handle_in(said: &Value<'_>) -> Option<u32>
+    ensures { result ≡ listed.handle_in (view said.now) }
+{
+    Some(number_in("handle", said, MAX_HANDLE)? as u32)
+}
+
+/// The parts of a rule.
+fn rule_parts<'v, 'a>(said: &'v Value<'a>) -> Option<RuleParts<'v, 'a>>
+    ensures { option_map listed.parts_seen result ≡ listed.rule_parts (view said.now) }
+{
+    if !has_rule_members(said) {
+        return None;
+    }
+    let owner = owner_in("chain", said)?;
+    let handle = handle_in(said)?;
+    let statements = items_in("expr", said)?;
+    Some(RuleParts {
+        owner,
+        handle,
+        statements,
+    })
+}
+
+/// Whether a chain has a type, a hook and a priority.
+fn has_hook(said: &Value<'_>) -> bool
+    ensures { result ≡ listed.has_hook (view said.now) }
+{
+    text_in("type", said).is_some() && text_in("hook", said).is_some() && said.get("prio").is_some()
+}
+
+/// The policy of a chain that packets come to by themselves.
+fn base_policy(answers: Answers, handle: u32, said: &Value<'_>) -> Result<Option<u32>, ObjectKind>
+    ensures { result ≡ listed.base_policy answers handle (view said.now) }
+{
+    if !has_hook(said) {
+        return Err(ObjectKind::BadChain);
+    }
+    match text_in("policy", said).and_then(policy_named) {
+        Some(verdict) => Ok(Some(answer_of(answers, handle, verdict))),
+        None => Err(ObjectKind::BadPolicy),
     }
 }
 
-/// A rule of a family, whose chain stands before it.
-fn add_rule(
-    alloc: Global,
-    setting: Setting<'_, '_, '_>,
-    chains: &mut Vec<NftChain>,
-    family: &str,
-    said: &Value<'_>,
-) -> Result<(), Stop>
-    ensures ok { OnOk result (listed.with_rule (setting_of setting.entry)
-        chains.old.items family.now (value_view said.now) ≡ Ok chains.new.items) }
-    ensures err { IfErr result (Refuses (listed.with_rule (setting_of setting.entry)
-        chains.old.items family.now (value_view said.now))) }
+/// The policy of a chain, which has eight members if packets come to it by themselves, and else
+/// four, and may have a comment.
+fn policy_of(answers: Answers, handle: u32, said: &Value<'_>) -> Result<Option<u32>, ObjectKind>
+    ensures { result ≡ listed.policy_of answers handle (view said.now) }
 {
-    match rule_parts(family, said) {
-        Ok(parts) => match place_of(chains, parts.owner, false) {
-            Some(place) => {
-                put_rule(alloc, setting, chains, parts, place)?;
-                Ok(())
-            }
-            None => Err(Stop::Faulty(ObjectKind::NoChain)),
-        },
-        Err(kind) => Err(Stop::Faulty(kind)),
+    let comments = present("comment", said);
+    if len_of(said) == 4 + comments {
+        return Ok(None);
     }
-}
-
-/// Puts a chain without rules after the others.
-fn put_chain(
-    alloc: Global,
-    chains: &mut Vec<NftChain>,
-    parts: ChainParts<'_>,
-) -> Result<(), AllocError>
-    ensures { OnOk result (chains.new.items ≡ listed.one_more chains.old.items
-        (record { owner = names_of parts.entry.owner; policy = parts.entry.policy })) }
-{
-    chains.push(NftChain::new(alloc, parts.owner, parts.policy)?)?;
-    Ok(())
-}
-
-/// A chain of a family, which didn't stand before.
-fn add_chain(
-    alloc: Global,
-    question: Question<'_>,
-    chains: &mut Vec<NftChain>,
-    family: &str,
-    said: &Value<'_>,
-) -> Result<(), Stop>
-    ensures ok { OnOk result (listed.with_chain (question_of question.entry)
-        chains.old.items family.now (value_view said.now) ≡ Ok chains.new.items) }
-    ensures err { IfErr result (Refuses (listed.with_chain (question_of question.entry)
-        chains.old.items family.now (value_view said.now))) }
-{
-    match chain_parts(question.asked.answers, family, said) {
-        Ok(parts) => {
-            if place_of(chains, parts.owner, false).is_some() {
-                return Err(Stop::Faulty(ObjectKind::ChainTwice));
-            }
-            put_chain(alloc, chains, parts)?;
-            Ok(())
-        }
-        Err(kind) => Err(Stop::Faulty(kind)),
+    if len_of(said) == 8 + comments {
+        return base_policy(answers, handle, said);
     }
+    Err(ObjectKind::BadChain)
 }
 
 /// Whether packets of a family come to tables of one of a name.
 fn is_read(family: Family, name: &str) -> bool
     ensures { result ≡ listed.is_read family name.now }
 {
-    match family {
-        Family::Ip4 => name == "ip" || name == "inet",
-        Family::Ip6 => name == "ip6" || name == "inet",
-    }
+    name == "inet" || name == own_name(family)
 }
 
 /// Whether a name is that of a family of tables.
 fn is_family(name: &str) -> bool
     ensures { result ≡ listed.is_family name.now }
 {
-    name == "ip"
-        || name == "ip6"
-        || name == "inet"
-        || name == "arp"
-        || name == "bridge"
-        || name == "netdev"
+    matches!(name, "ip" | "ip6" | "inet" | "arp" | "bridge" | "netdev")
 }
 
 /// The family of an object.
 fn family_in<'a>(said: &Value<'a>) -> Option<&'a str>
-    ensures { MatchOption result
-        (listed.family_in (value_view said.now) ≡ None)
-        (λ name. listed.family_in (value_view said.now) ≡ Some name.now) }
+    ensures { option_map text_seen result ≡ listed.family_in (view said.now) }
 {
     let name = text_in("family", said)?;
-    if is_family(name) { Some(name) } else { None }
+    is_family(name).then_some(name)
 }
 
-/// Whether objects of tables of a name are such that statements of rules name.
-fn is_stateful(name: &str) -> bool
-    ensures { result ≡ listed.is_stateful name.now }
+/// Whether objects of tables of a name are such that statements of rules seldom name.
+fn is_rare(name: &str) -> bool
+    ensures { result ≡ listed.is_rare name.now }
 {
-    name == "counter"
-        || name == "quota"
-        || name == "limit"
-        || name == "secmark"
+    name == "secmark"
         || name == "synproxy"
-}
-
-/// Whether they are those of connections.
-fn is_of_connections(name: &str) -> bool
-    ensures { result ≡ listed.is_of_connections name.now }
-{
-    name == "ct helper" || name == "ct timeout" || name == "ct expectation" || name == "flowtable"
+        || name == "ct helper"
+        || name == "ct timeout"
+        || name == "ct expectation"
+        || name == "flowtable"
 }
 
 /// Whether objects of tables of a name say nothing of packets by themselves.
 fn is_silent(name: &str) -> bool
     ensures { result ≡ listed.is_silent name.now }
 {
-    name == "set" || name == "map" || is_stateful(name) || is_of_connections(name)
+    name == "set"
+        || name == "map"
+        || name == "counter"
+        || name == "quota"
+        || name == "limit"
+        || is_rare(name)
 }
 
-/// A chain. Those of other families have no part.
-fn add_chain_object(
-    alloc: Global,
-    question: Question<'_>,
-    chains: &mut Vec<NftChain>,
-    said: &Value<'_>,
-) -> Result<(), Stop>
-    ensures ok { OnOk result (listed.with_chain_object (question_of question.entry)
-        chains.old.items (value_view said.now) ≡ Ok chains.new.items) }
-    ensures err { IfErr result (Refuses (listed.with_chain_object (question_of question.entry)
-        chains.old.items (value_view said.now))) }
+/// Whether objects of a name have a family.
+fn has_family(name: &str) -> bool
+    ensures { result ≡ listed.has_family name.now }
 {
-    let Some(family) = family_in(said) else {
-        return Err(Stop::Faulty(ObjectKind::NoFamily));
-    };
-    if !is_read(question.asked.family, family) {
-        return Ok(());
-    }
-    add_chain(alloc, question, chains, family, said)
+    name == "rule" || name == "chain" || name == "table" || is_silent(name)
 }
 
-/// A rule. Those of other families have no part.
-fn add_rule_object(
-    alloc: Global,
-    setting: Setting<'_, '_, '_>,
-    chains: &mut Vec<NftChain>,
-    said: &Value<'_>,
-) -> Result<(), Stop>
-    ensures ok { OnOk result (listed.with_rule_object (setting_of setting.entry)
-        chains.old.items (value_view said.now) ≡ Ok chains.new.items) }
-    ensures err { IfErr result (Refuses (listed.with_rule_object (setting_of setting.entry)
-        chains.old.items (value_view said.now))) }
-{
-    let Some(family) = family_in(said) else {
-        return Err(Stop::Faulty(ObjectKind::NoFamily));
-    };
-    if !is_read(setting.question.asked.family, family) {
-        return Ok(());
-    }
-    add_rule(alloc, setting, chains, family, said)
-}
+impl<'k, 's, 'a> Setting<'k, 's, 'a> {
+    ghost use Rattle.std.specs.Prelude.{◌≡◌, ◌<◌, [], length, map, IfErr, IfOk, Ok, OnOk};
+    ghost use Rattle.json.specs.Value.{value_view as view};
+    ghost use Rattle.nft_reader.specs.Known.{setting_of};
+    ghost use Rattle.nft_reader.specs.Ruleset as listed;
+    ghost use Rattle.nft_reader.specs.Stops.{IsToldOf, Leaves, folded};
 
-/// The fault of an object that has no family.
-fn silent_fault(said: &Value<'_>) -> Option<ObjectKind>
-    ensures { result ≡ listed.silent_fault (value_view said.now) }
-{
-    match family_in(said) {
-        Some(_) => None,
-        None => Some(ObjectKind::NoFamily),
+    /// Puts a rule after the others of its chain, which has the place.
+    fn put_rule(
+        &self,
+        chains: &mut Vec<NftChain>,
+        parts: RuleParts<'_, 'a>,
+        place: usize,
+    ) -> Result<(), AllocError>
+        requires { place < length chains.old.items }
+        ensures { OnOk result (chains.new.items ≡ listed.with_rule_at (setting_of self.now)
+            (listed.parts_seen parts.entry) chains.old.items place) }
+    {
+        let known = Known {
+            alloc: self.alloc,
+            asked: self.asked,
+            assumed: self.assumed,
+            sets: self.sets,
+            chains,
+            owner: &parts.owner,
+            handle: parts.handle,
+            ported: false,
+        };
+        let said = known.read(parts.statements)?;
+        chains[place].add(self.alloc, self.asked.family, parts.handle, &said)
     }
-}
 
-/// A table has a family, and no flags: one that is dormant has no packets.
-fn table_fault(said: &Value<'_>) -> Option<ObjectKind>
-    ensures { result ≡ listed.table_fault (value_view said.now) }
-{
-    if family_in(said).is_none() {
-        return Some(ObjectKind::NoFamily);
+    /// A rule, whose chain stands before it.
+    fn add_rule(&self, chains: &mut Vec<NftChain>, said: &Value<'a>) -> Result<(), Stop<ObjectKind>>
+        ensures { Leaves result chains.new.items
+            (listed.with_rule (setting_of self.now) chains.old.items (view said.now)) }
+    {
+        let parts = rule_parts(said).ok_or(ObjectKind::BadRule)?;
+        let place = place_of(chains, &parts.owner, parts.owner.name, false).ok_or(
+            ObjectKind::NoChain,
+        )?;
+        self.put_rule(chains, parts, place)?;
+        Ok(())
     }
-    match said.get("flags") {
-        Some(_) => Some(ObjectKind::BadTable),
-        None => None,
-    }
-}
 
-/// The fault of an object that is no chain and no rule.
-fn other_fault(name: &str, said: &Value<'_>) -> Option<ObjectKind>
-    ensures { result ≡ listed.other_fault name.now (value_view said.now) }
-{
-    if name == "table" {
-        return table_fault(said);
+    /// A chain, which didn't stand before. It has no rules yet.
+    fn add_chain(
+        &self,
+        chains: &mut Vec<NftChain>,
+        said: &Value<'a>,
+    ) -> Result<(), Stop<ObjectKind>>
+        ensures { Leaves result chains.new.items
+            (listed.with_chain (setting_of self.now) chains.old.items (view said.now)) }
+    {
+        let owner = owner_in("name", said).ok_or(ObjectKind::BadChain)?;
+        let handle = handle_in(said).ok_or(ObjectKind::BadChain)?;
+        let policy = policy_of(self.asked.answers, handle, said)?;
+        if place_of(chains, &owner, owner.name, false).is_some() {
+            return Err(Stop::Told(ObjectKind::ChainTwice));
+        }
+        chains.push(NftChain::new(self.alloc, &owner, policy)?)?;
+        Ok(())
     }
-    if is_silent(name) {
-        return silent_fault(said);
-    }
-    if name == "metainfo" {
-        return None;
-    }
-    Some(ObjectKind::UnknownObject)
-}
 
-/// An object by its name.
-fn add_named_object(
-    alloc: Global,
-    setting: Setting<'_, '_, '_>,
-    chains: &mut Vec<NftChain>,
-    name: &str,
-    said: &Value<'_>,
-) -> Result<(), Stop>
-    ensures ok { OnOk result (listed.with_named_object (setting_of setting.entry)
-        chains.old.items name.now (value_view said.now) ≡ Ok chains.new.items) }
-    ensures err { IfErr result (Refuses (listed.with_named_object (setting_of setting.entry)
-        chains.old.items name.now (value_view said.now))) }
-{
-    match name {
-        "rule" => add_rule_object(alloc, setting, chains, said),
-        "chain" => add_chain_object(alloc, setting.question, chains, said),
-        _ => match other_fault(name, said) {
-            Some(kind) => Err(Stop::Faulty(kind)),
-            None => Ok(()),
-        },
-    }
-}
-
-/// An object, which has one member.
-fn add_object(
-    alloc: Global,
-    setting: Setting<'_, '_, '_>,
-    chains: &mut Vec<NftChain>,
-    object: &Value<'_>,
-) -> Result<(), Stop>
-    ensures ok { OnOk result (listed.with_object (setting_of setting.entry)
-        chains.old.items (value_view object.now) ≡ Ok chains.new.items) }
-    ensures err { IfErr result (Refuses (listed.with_object (setting_of setting.entry)
-        chains.old.items (value_view object.now))) }
-{
-    match only(object) {
-        Some((name, said)) => add_named_object(alloc, setting, chains, name, said),
-        None => Err(Stop::Faulty(ObjectKind::UnknownObject)),
-    }
-}
-
-/// The chains of objects, or the first faulty one.
-fn read_objects(
-    alloc: Global,
-    setting: Setting<'_, '_, '_>,
-    objects: &[Value<'_>],
-) -> Result<Vec<NftChain>, NftFault>
-    ensures chains { IfOk result (λ chains.
-        listed.with_objects (setting_of setting.entry) 0 [] (map value_view objects.now)
-        ≡ Ok chains.items) }
-    ensures fault { IfErr result (IsToldOf
-        (listed.with_objects (setting_of setting.entry) 0 [] (map value_view objects.now))) }
-{
-    let mut chains = Vec::new(alloc);
-    let mut number = 0;
-    for object in objects {
-        number += 1;
-        match add_object(alloc, setting, &mut chains, object) {
-            Ok(()) => {}
-            Err(stop) => return Err(fault_of(number, stop)),
+    /// An object of a family. Chains and rules of families that aren't read have no part.
+    fn add_part(
+        &self,
+        chains: &mut Vec<NftChain>,
+        name: &str,
+        said: &Value<'a>,
+        family: &str,
+    ) -> Result<(), Stop<ObjectKind>>
+        ensures { Leaves result chains.new.items
+            (listed.with_part (setting_of self.now) chains.old.items name.now (view said.now)
+            family.now) }
+    {
+        if name == "table" {
+            // One that is dormant has no packets.
+            return match said.get("flags") {
+                Some(_) => Err(Stop::Told(ObjectKind::BadTable)),
+                None => Ok(()),
+            };
+        }
+        if !is_read(self.asked.family, family) {
+            return Ok(());
+        }
+        match name {
+            "rule" => self.add_rule(chains, said),
+            "chain" => self.add_chain(chains, said),
+            _ => Ok(()),
         }
     }
-    Ok(chains)
-}
 
-/// The chains of objects that may name sets, or the first faulty one.
-fn read_with_sets(
-    alloc: Global,
-    question: Question<'_>,
-    objects: &[Value<'_>],
-) -> Result<Vec<NftChain>, NftFault>
-    ensures chains { IfOk result (λ chains.
-        listed.chains_of_objects (question_of question.entry) (Some (map value_view objects.now))
-        ≡ Ok chains.items) }
-    ensures fault { IfErr result (IsToldOf
-        (listed.chains_of_objects (question_of question.entry)
-        (Some (map value_view objects.now)))) }
-{
-    let sets = sets_of(alloc, objects)?;
-    let setting = Setting {
-        question,
-        sets: sets.as_slice(),
-    };
-    read_objects(alloc, setting, objects)
+    /// An object, which has one member.
+    fn add_object(
+        &self,
+        chains: &mut Vec<NftChain>,
+        object: &Value<'a>,
+    ) -> Result<(), Stop<ObjectKind>>
+        ensures { Leaves result chains.new.items
+            (listed.with_object (setting_of self.now) chains.old.items (view object.now)) }
+    {
+        let (name, said) = only(object).ok_or(ObjectKind::UnknownObject)?;
+        if has_family(name) {
+            let family = family_in(said).ok_or(ObjectKind::NoFamily)?;
+            return self.add_part(chains, name, said, family);
+        }
+        match name {
+            "metainfo" => Ok(()),
+            _ => Err(Stop::Told(ObjectKind::UnknownObject)),
+        }
+    }
+
+    /// The chains of objects, or the first faulty one.
+    fn read(&self, objects: &[Value<'a>]) -> Result<Vec<NftChain>, NftFault>
+        ensures chains { IfOk result (λ chains.
+            listed.objects_read (setting_of self.now) (map view objects.now) ≡ Ok chains.items) }
+        ensures fault { IfErr result
+            (IsToldOf (listed.objects_read (setting_of self.now) (map view objects.now))) }
+    {
+        let mut chains = Vec::new(self.alloc);
+        let mut object = 0;
+        for value in objects {
+            object += 1;
+            match self.add_object(&mut chains, value) {
+                Ok(()) => {}
+                Err(stop) => return Err(fault_of(object, stop)),
+            }
+        }
+        Ok(chains)
+    }
 }
 
 /// Why a ruleset isn't read whose object isn't.
-fn fault_of(object: usize, stop: Stop) -> NftFault
-    ensures { result ≡ fault_of object stop }
+fn fault_of(object: usize, stop: Stop<ObjectKind>) -> NftFault
+    ensures { result ≡ listed.fault_of object stop }
 {
     match stop {
-        Stop::Faulty(kind) => NftFault::Object(ObjectFault { object, kind }),
+        Stop::Told(kind) => NftFault::Object(ObjectFault { object, kind }),
         Stop::OutOfMemory => NftFault::OutOfMemory,
     }
 }
@@ -362,34 +301,34 @@ fn whole_fault(kind: ObjectKind) -> NftFault
 
 /// The objects of a ruleset.
 fn objects_of<'v, 'a>(value: &'v Value<'a>) -> Option<&'v [Value<'a>]>
-    ensures { MatchOption result
-        (listed.objects_of (value_view value.now) ≡ None)
-        (λ objects. listed.objects_of (value_view value.now) ≡ Some (map value_view objects.now)) }
+    ensures { option_map all_seen result ≡ listed.objects_of (view value.now) }
 {
-    match only(value)? {
-        ("nftables", said) => items_of(said),
-        _ => None,
-    }
+    items_of(said_by("nftables", value)?)
 }
 
 /// The chains of a value.
 fn read_value(
     alloc: Global,
-    question: Question<'_>,
+    asked: Asked,
+    assumed: &[u8],
     value: &Value<'_>,
 ) -> Result<Vec<NftChain>, NftFault>
-    ensures chains { IfOk result (λ chains.
-        listed.chains_of_objects (question_of question.entry)
-        (listed.objects_of (value_view value.now))
-        ≡ Ok chains.items) }
-    ensures fault { IfErr result (IsToldOf
-        (listed.chains_of_objects (question_of question.entry)
-        (listed.objects_of (value_view value.now)))) }
+    ensures chains { IfOk result (λ chains. listed.chains_of_value
+        (listed.question asked assumed.now) (view value.now) ≡ Ok chains.items) }
+    ensures fault { IfErr result (IsToldOf (listed.chains_of_value
+        (listed.question asked assumed.now) (view value.now))) }
 {
-    match objects_of(value) {
-        Some(objects) => read_with_sets(alloc, question, objects),
-        None => Err(whole_fault(ObjectKind::NoList)),
-    }
+    let Some(objects) = objects_of(value) else {
+        return Err(whole_fault(ObjectKind::NoList));
+    };
+    let sets = sets_of(alloc, objects)?;
+    let setting = Setting {
+        alloc,
+        asked,
+        assumed,
+        sets: sets.as_slice(),
+    };
+    setting.read(objects)
 }
 
 /// The chains of a ruleset for the packets of a family, or a faulty object.
@@ -418,12 +357,7 @@ pub fn read_ruleset(
     if is_too_long(bytes) {
         return Err(whole_fault(ObjectKind::FileTooLong));
     }
-    let question = Question {
-        asked,
-        assumed,
-        ported: false,
-    };
-    read_text(alloc, bytes, question)
+    read_text(alloc, bytes, asked, assumed)
 }
 
 /// Whether a ruleset has more bytes than it may have.
@@ -434,16 +368,20 @@ fn is_too_long(bytes: &[u8]) -> bool
 }
 
 /// The chains of a text of JSON.
-fn read_text(alloc: Global, bytes: &[u8], question: Question<'_>) -> Result<Vec<NftChain>, NftFault>
-    ensures chains { IfOk result
-        (λ chains. listed.chains_of_text (question_of question.entry) bytes.now
-        ≡ Ok chains.items) }
-    ensures fault { IfErr result
-        (IsToldOf (listed.chains_of_text (question_of question.entry) bytes.now)) }
+fn read_text(
+    alloc: Global,
+    bytes: &[u8],
+    asked: Asked,
+    assumed: &[u8],
+) -> Result<Vec<NftChain>, NftFault>
+    ensures chains { IfOk result (λ chains. listed.chains_of_text
+        (listed.question asked assumed.now) bytes.now ≡ Ok chains.items) }
+    ensures fault { IfErr result (IsToldOf (listed.chains_of_text
+        (listed.question asked assumed.now) bytes.now)) }
 {
     let mut scratch = Scratch::new(alloc);
     match Value::from_slice(alloc, bytes, &mut scratch) {
-        Ok(value) => read_value(alloc, question, &value),
+        Ok(value) => read_value(alloc, asked, assumed, &value),
         Err(Error::OutOfMemory) => Err(NftFault::OutOfMemory),
         Err(Error::Invalid) => Err(whole_fault(ObjectKind::NotJson)),
         Err(Error::TooLong | Error::DuplicateKey) => unreachable!(),

@@ -1,88 +1,55 @@
 //! Named sets and maps of a ruleset.
 
-ghost use Rattle.std.specs.Prelude.{◌≡◌, ◌++◌, [], map, Some, None, IfOk, OnOk, MatchOption};
-ghost use Rattle.std.specs.Prelude.{◌≤◌, codes};
+ghost use Rattle.std.specs.Prelude.{◌≡◌, ◌++◌, ◌≤◌, codes, map, IfOk, OnOk, option_map};
 ghost use Rattle.std.specs.List.{list_all, list_any};
-ghost use Rattle.json.specs.Find.{get};
-ghost use Rattle.json.specs.Value.{value_view};
-ghost use Rattle.nft_reader.specs.Chains.{names_of};
+ghost use Rattle.std.specs.Option.{option_to_list};
+ghost use Rattle.json.specs.Find.{as_str, get};
+ghost use Rattle.json.specs.Value.{value_view as view};
 ghost use Rattle.nft_reader.specs.Sets as sets;
-ghost use Rattle.nft_reader.specs.Shapes.{text_in};
+ghost use Rattle.nft_reader.specs.Shapes as shapes;
+ghost use Rattle.nft_reader.specs.Shapes.{all_seen, elements_seen, text_in, text_seen};
 
 use crate::chain::Owner;
 use crate::fault::RuleKind;
-use crate::shapes::{items_in, items_of, len_of, only, present, text_in};
+use crate::shapes::{items_in, items_of, len_of, listed_values, only, present, said_by, text_in};
 use json::Value;
 use std::alloc::{AllocError, Global};
 
-/// What a set has.
-#[derive(Clone, Copy)]
-pub(crate) enum Form {
-    /// Values alone.
-    Values,
-    /// Values, each with a verdict.
-    Verdicts,
-}
-
-/// A set or a map, with its elements, or why they aren't known.
-#[derive(Clone, Copy)]
+/// A set or a map: its name, whether its elements have verdicts, and these elements, or why they
+/// aren't known.
+#[derive(Drop)]
 pub(crate) struct NamedSet<'v, 'a> {
     owner: Owner<'v>,
-    form: Form,
-    elements: Result<&'v [Value<'a>], RuleKind>,
+    verdicts: bool,
+    pub(crate) elements: Result<&'v [Value<'a>], RuleKind>,
 }
 
 impl<'v, 'a> NamedSet<'v, 'a> {
     ghost use Rattle.std.specs.Prelude.{◌≡◌};
-    ghost use Rattle.nft_reader.specs.Chains.{names_of};
     ghost use Rattle.nft_reader.specs.Sets.{is_wanted, set_of};
 
-    /// Whether it has this form, and this name in the table of a chain.
-    fn is_wanted(&self, form: Form, owner: Owner<'_>, name: &[u8]) -> bool
-        ensures { result ≡ is_wanted form
-            (record (names_of owner.entry) { name = name.now }) (set_of self.now) }
+    /// Whether it has this name in the table of a chain, and verdicts where they are asked for.
+    pub(crate) fn is_wanted(&self, verdicts: bool, owner: &Owner<'_>, name: &[u8]) -> bool
+        ensures { result
+            ≡ is_wanted verdicts (record (owner.now) { name = name.now }) (set_of self.now) }
     {
-        is_form(form, self.form)
+        self.verdicts == verdicts
             && self.owner.family == owner.family
             && self.owner.table == owner.table
             && self.owner.name.as_bytes() == name
     }
 }
 
-/// Whether forms are the same.
-fn is_form(wanted: Form, form: Form) -> bool
-    ensures { result ≡ sets.is_form wanted form }
-{
-    match (wanted, form) {
-        (Form::Values, Form::Values) | (Form::Verdicts, Form::Verdicts) => true,
-        (Form::Values, Form::Verdicts) | (Form::Verdicts, Form::Values) => false,
-    }
-}
-
 /// The name after `@`.
-pub(crate) fn at_name(text: &str) -> Option<&[u8]>
-    ensures { MatchOption result
-        (sets.at_name text.now ≡ None)
-        (λ name. sets.at_name text.now ≡ Some name.now) }
+pub(crate) fn at_name(text: &[u8]) -> Option<&[u8]>
+    ensures { option_map text_seen result ≡ sets.at_name text.now }
 {
-    text.as_bytes().strip_prefix(b"@")
+    text.strip_prefix(b"@")
 }
 
-/// The set that a statement changes.
-fn changed_by<'v>(statement: &'v Value<'_>) -> Option<&'v [u8]>
-    ensures { MatchOption result
-        (sets.changed_by (value_view statement.now) ≡ None)
-        (λ name. sets.changed_by (value_view statement.now) ≡ Some name.now) }
-{
-    match only(statement)? {
-        ("set", said) => at_name(text_in("set", said)?),
-        _ => None,
-    }
-}
-
-/// Whether a statement changes the set of a name.
+/// Whether a statement adds elements to the set of a name, or takes some from it.
 fn changes(name: &str, statement: &Value<'_>) -> bool
-    ensures { result ≡ sets.changes name.now (value_view statement.now) }
+    ensures { result ≡ sets.changes name.now (view statement.now) }
 {
     match changed_by(statement) {
         Some(other) => other == name.as_bytes(),
@@ -90,21 +57,16 @@ fn changes(name: &str, statement: &Value<'_>) -> bool
     }
 }
 
-/// Whether one of some statements does.
-fn one_changes(name: &str, statements: &[Value<'_>]) -> bool
-    ensures { result ≡ list_any (sets.changes name.now) (map value_view statements.now) }
+/// The set that a statement changes.
+fn changed_by<'a>(statement: &Value<'a>) -> Option<&'a [u8]>
+    ensures { option_map text_seen result ≡ sets.changed_by (view statement.now) }
 {
-    for statement in statements {
-        if changes(name, statement) {
-            return true;
-        }
-    }
-    false
+    at_name(text_in("set", said_by("set", statement)?)?.as_bytes())
 }
 
 /// Whether a member is this text.
 fn is_text_in(key: &str, text: &str, said: &Value<'_>) -> bool
-    ensures { result ≡ sets.is_text text.now (text_in key.now (value_view said.now)) }
+    ensures { result ≡ sets.is_text text.now (text_in key.now (view said.now)) }
 {
     match text_in(key, said) {
         Some(other) => other == text,
@@ -112,93 +74,90 @@ fn is_text_in(key: &str, text: &str, said: &Value<'_>) -> bool
     }
 }
 
-/// Whether a rule stands in the table of a set, and changes it.
-fn rule_changes(owner: Owner<'_>, said: &Value<'_>) -> bool
-    ensures { result ≡ sets.rule_changes (names_of owner.entry) (value_view said.now) }
+/// Whether one of some statements changes the set of a name.
+fn one_changes(name: &str, statements: &[Value<'_>]) -> bool
+    ensures { result
+        ≡ list_any (λ statement. sets.changes name.now (view statement)) statements.now }
 {
-    if !is_text_in("family", owner.family, said) || !is_text_in("table", owner.table, said) {
-        return false;
-    }
+    statements.iter().any(|statement| changes(name, statement))
+}
+
+/// Whether a statement of a rule does.
+fn some_changes(name: &str, said: &Value<'_>) -> bool
+    ensures { result ≡ sets.some_changes name.now (shapes.items_in (codes "expr") (view said.now)) }
+{
     match items_in("expr", said) {
-        Some(statements) => one_changes(owner.name, statements),
+        Some(statements) => one_changes(name, statements),
         None => false,
     }
 }
 
-/// Whether an object is a rule that changes a set.
-fn object_changes(owner: Owner<'_>, object: &Value<'_>) -> bool
-    ensures { result ≡ sets.object_changes (names_of owner.entry) (value_view object.now) }
+/// Whether an object is a rule that stands in the table of a set, and changes it.
+fn object_changes(owner: &Owner<'_>, object: &Value<'_>) -> bool
+    ensures { result ≡ sets.object_changes owner.now (view object.now) }
 {
-    match only(object) {
-        Some(("rule", said)) => rule_changes(owner, said),
-        _ => false,
+    match said_by("rule", object) {
+        Some(said) => {
+            is_text_in("family", owner.family, said)
+                && is_text_in("table", owner.table, said)
+                && some_changes(owner.name, said)
+        }
+        None => false,
     }
+}
+
+/// Whether one of some objects does.
+fn one_object_changes(objects: &[Value<'_>], owner: &Owner<'_>) -> bool
+    ensures { result
+        ≡ list_any (λ object. sets.object_changes owner.now (view object)) objects.now }
+{
+    objects.iter().any(|object| object_changes(owner, object))
 }
 
 /// Whether packets change a set.
-fn is_changed(objects: &[Value<'_>], owner: Owner<'_>) -> bool
-    ensures { result ≡ sets.is_changed (map value_view objects.now) (names_of owner.entry) }
+fn is_changed(objects: &[Value<'_>], owner: &Owner<'_>) -> bool
+    ensures { result ≡ sets.is_changed (map view objects.now) owner.now }
 {
-    for object in objects {
-        if object_changes(owner, object) {
-            return true;
-        }
-    }
-    false
+    one_object_changes(objects, owner)
 }
 
-/// Whether the elements of a set with this flag stay.
-fn is_kept_flag(flag: &str) -> bool
-    ensures { result ≡ sets.is_kept_flag flag.now }
+/// Whether a flag is one by which the elements of a set stay.
+fn is_kept_flag(flag: &Value<'_>) -> bool
+    ensures { result ≡ sets.is_kept_flag (as_str (view flag.now)) }
 {
-    flag == "interval" || flag == "constant"
-}
-
-/// Whether a value is such a flag.
-fn is_kept_value(value: &Value<'_>) -> bool
-    ensures { result ≡ sets.is_kept_value (value_view value.now) }
-{
-    match value.as_str() {
-        Some(flag) => is_kept_flag(flag),
+    match flag.as_str() {
+        Some(flag) => matches!(flag, "interval" | "constant"),
         None => false,
     }
 }
 
-/// Whether all of some values are.
-fn are_kept_values(values: &[Value<'_>]) -> bool
-    ensures { result ≡ list_all sets.is_kept_value (map value_view values.now) }
+/// Whether all of some flags are such.
+fn are_kept_flags(flags: &[Value<'_>]) -> bool
+    ensures { result ≡ list_all (λ flag. sets.is_kept_flag (as_str (view flag))) flags.now }
 {
-    for value in values {
-        if !is_kept_value(value) {
-            return false;
-        }
-    }
-    true
+    flags.iter().all(|flag| is_kept_flag(flag))
 }
 
 /// Whether the flags of a set, if it has some, are such.
 fn has_kept_flags(said: &Value<'_>) -> bool
-    ensures { result ≡ sets.are_kept_flags (get (codes "flags") (value_view said.now)) }
+    ensures { result ≡ sets.are_kept_flags (get (codes "flags") (view said.now)) }
 {
-    let Some(value) = said.get("flags") else {
-        return true;
-    };
-    match items_of(value) {
-        Some(flags) => are_kept_values(flags),
-        None => is_kept_value(value),
+    match said.get("flags") {
+        Some(flags) => are_kept_flags(listed_values(flags)),
+        None => true,
     }
 }
 
 /// Whether elements end by time, or are of a set that packets may change.
 fn is_timed(said: &Value<'_>) -> bool
-    ensures { result ≡ sets.is_timed (value_view said.now) }
+    ensures { result ≡ sets.is_timed (view said.now) }
 {
     said.get("timeout").is_some() || said.get("gc-interval").is_some() || !has_kept_flags(said)
 }
 
 /// How many members say nothing of packets, or are read.
 fn known_members(said: &Value<'_>) -> usize
-    ensures members { result ≡ sets.known_members (value_view said.now) }
+    ensures members { result ≡ sets.known_members (view said.now) }
     ensures bound { result ≤ 10 }
 {
     present("type", said)
@@ -215,29 +174,21 @@ fn known_members(said: &Value<'_>) -> usize
 
 /// Whether a statement that each element of a set has is a counter.
 fn is_counter(statement: &Value<'_>) -> bool
-    ensures { result ≡ sets.is_counter (value_view statement.now) }
+    ensures { result ≡ sets.is_counter (view statement.now) }
 {
-    match only(statement) {
-        Some((name, _)) => name == "counter",
-        None => false,
-    }
+    said_by("counter", statement).is_some()
 }
 
 /// Whether all of some statements are.
 fn are_counters(statements: &[Value<'_>]) -> bool
-    ensures { result ≡ list_all sets.is_counter (map value_view statements.now) }
+    ensures { result ≡ list_all (λ statement. sets.is_counter (view statement)) statements.now }
 {
-    for statement in statements {
-        if !is_counter(statement) {
-            return false;
-        }
-    }
-    true
+    statements.iter().all(|statement| is_counter(statement))
 }
 
 /// Whether the statements of a set, if it has some, say nothing of packets.
 fn has_quiet_statements(said: &Value<'_>) -> bool
-    ensures { result ≡ sets.are_quiet (get (codes "stmt") (value_view said.now)) }
+    ensures { result ≡ sets.are_quiet (get (codes "stmt") (view said.now)) }
 {
     let Some(value) = said.get("stmt") else {
         return true;
@@ -250,39 +201,29 @@ fn has_quiet_statements(said: &Value<'_>) -> bool
 
 /// Whether it has members that are known alone.
 fn has_set_members(said: &Value<'_>) -> bool
-    ensures { result ≡ sets.has_set_members (value_view said.now) }
+    ensures { result ≡ sets.has_set_members (view said.now) }
 {
     len_of(said) == 3 + known_members(said) && has_quiet_statements(said)
 }
 
-/// The elements that are listed.
+/// The elements that are listed. An empty set lists none.
 fn listed_elements<'v, 'a>(said: &'v Value<'a>) -> Option<&'v [Value<'a>]>
-    ensures { MatchOption result
-        (sets.listed_elements (value_view said.now) ≡ None)
-        (λ elements. sets.listed_elements (value_view said.now)
-        ≡ Some (map value_view elements.now)) }
+    ensures { option_map all_seen result ≡ sets.listed_elements (view said.now) }
 {
     match said.get("elem") {
         Some(value) => items_of(value),
-        None => Some(none_of(said)),
+        None => Some(&std::slice::from_ref(said)[..0]),
     }
-}
-
-/// No values.
-fn none_of<'v, 'a>(value: &'v Value<'a>) -> &'v [Value<'a>]
-    ensures { result.now ≡ [] }
-{
-    &std::slice::from_ref(value)[..0]
 }
 
 /// The elements of a set among objects, or why they aren't known.
 fn set_elements<'v, 'a>(
     objects: &[Value<'_>],
-    owner: Owner<'_>,
+    owner: &Owner<'_>,
     said: &'v Value<'a>,
 ) -> Result<&'v [Value<'a>], RuleKind>
-    ensures { sets.elements_seen result ≡ sets.set_elements (map value_view objects.now)
-        (names_of owner.entry) (value_view said.now) }
+    ensures { elements_seen result
+        ≡ sets.set_elements (map view objects.now) owner.now (view said.now) }
 {
     if is_timed(said) || is_changed(objects, owner) {
         return Err(RuleKind::ChangingSet);
@@ -290,35 +231,27 @@ fn set_elements<'v, 'a>(
     if !has_set_members(said) {
         return Err(RuleKind::OtherSet);
     }
-    match listed_elements(said) {
-        Some(elements) => Ok(elements),
-        None => Err(RuleKind::OtherSet),
-    }
+    listed_elements(said).ok_or(RuleKind::OtherSet)
 }
 
-/// What objects of a name have.
-fn form_of(name: &str, said: &Value<'_>) -> Option<Form>
-    ensures { result ≡ sets.form_of name.now (value_view said.now) }
+/// Whether the elements of an object of a name have verdicts, if it is a set or a map to verdicts.
+fn verdicts_in(name: &str, said: &Value<'_>) -> Option<bool>
+    ensures { result ≡ sets.verdicts_in name.now (view said.now) }
 {
     match name {
-        "set" => Some(Form::Values),
-        "map" => match text_in("map", said)? {
-            "verdict" => Some(Form::Verdicts),
-            _ => None,
-        },
+        "set" => Some(false),
+        "map" => (text_in("map", said)? == "verdict").then_some(true),
         _ => None,
     }
 }
 
-/// The names of a set.
-fn set_names<'v>(said: &'v Value<'_>) -> Option<Owner<'v>>
-    ensures { MatchOption result
-        (sets.set_names (value_view said.now) ≡ None)
-        (λ owner. sets.set_names (value_view said.now) ≡ Some (names_of owner)) }
+/// The family, the table, and the name under a key.
+pub(crate) fn owner_in<'a>(key: &str, said: &Value<'a>) -> Option<Owner<'a>>
+    ensures { result ≡ sets.owner_in key.now (view said.now) }
 {
     let family = text_in("family", said)?;
     let table = text_in("table", said)?;
-    let name = text_in("name", said)?;
+    let name = text_in(key, said)?;
     Some(Owner {
         family,
         table,
@@ -328,18 +261,17 @@ fn set_names<'v>(said: &'v Value<'_>) -> Option<Owner<'v>>
 
 /// The set of an object that has one.
 fn set_object<'v, 'a>(objects: &[Value<'_>], object: &'v Value<'a>) -> Option<NamedSet<'v, 'a>>
-    ensures { MatchOption result
-        (sets.set_object (map value_view objects.now) (value_view object.now) ≡ None)
-        (λ set. sets.set_object (map value_view objects.now) (value_view object.now)
-        ≡ Some (sets.set_of set)) }
+    ensures { option_map sets.set_of result
+        ≡ sets.set_object (map view objects.now) (view object.now) }
 {
     let (name, said) = only(object)?;
-    let form = form_of(name, said)?;
-    let owner = set_names(said)?;
+    let verdicts = verdicts_in(name, said)?;
+    let owner = owner_in("name", said)?;
+    let elements = set_elements(objects, &owner, said);
     Some(NamedSet {
         owner,
-        form,
-        elements: set_elements(objects, owner, said),
+        verdicts,
+        elements,
     })
 }
 
@@ -350,7 +282,7 @@ fn put_set<'v, 'a>(
     object: &'v Value<'a>,
 ) -> Result<(), AllocError>
     ensures { OnOk result (map sets.set_of found.new.items ≡ map sets.set_of found.old.items
-        ++ sets.set_list (sets.set_object (map value_view objects.now) (value_view object.now))) }
+        ++ option_to_list (sets.set_object (map view objects.now) (view object.now))) }
 {
     if let Some(set) = set_object(objects, object) {
         found.push(set)?;
@@ -364,38 +296,11 @@ pub(crate) fn sets_of<'v, 'a>(
     objects: &'v [Value<'a>],
 ) -> Result<Vec<NamedSet<'v, 'a>>, AllocError>
     ensures { IfOk result (λ found. map sets.set_of found.items
-        ≡ sets.sets_in (map value_view objects.now) (map value_view objects.now)) }
+        ≡ sets.sets_in (map view objects.now) (map view objects.now)) }
 {
     let mut found = Vec::new(alloc);
     for object in objects {
         put_set(&mut found, objects, object)?;
     }
     Ok(found)
-}
-
-/// The elements of the set of a name in the table of a chain.
-pub(crate) fn named_elements<'v, 'a>(
-    form: Form,
-    owner: Owner<'_>,
-    known: &[NamedSet<'v, 'a>],
-    name: &[u8],
-) -> Result<&'v [Value<'a>], RuleKind>
-    ensures { sets.elements_seen result ≡ sets.named_elements form (names_of owner.entry)
-        (map sets.set_of known.now) name.now }
-{
-    for set in known {
-        if set.is_wanted(form, owner, name) {
-            return set.elements;
-        }
-    }
-    Err(RuleKind::NoSet)
-}
-
-/// The set that the right side of a comparison or the data of a map names.
-pub(crate) fn named_in<'v>(value: &'v Value<'_>) -> Option<&'v [u8]>
-    ensures { MatchOption result
-        (sets.named_in (value_view value.now) ≡ None)
-        (λ name. sets.named_in (value_view value.now) ≡ Some name.now) }
-{
-    at_name(value.as_str()?)
 }

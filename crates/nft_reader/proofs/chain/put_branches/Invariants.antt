@@ -6,4 +6,4 @@ use Rattle.nft_reader.proofs.chain.put_branches.Given as goal
 -- there are those of each branch so far
 abbrev pub invariant-loop-branch : goal.invariant-loop-branch
 invariant-loop-branch l =
-    Joined (branch_rules l.asked l.handle) l.branches l.branch-index l.fn.rules.items l.rules.items
+    Joined (branch_rules l.family) l.branches l.branch-index l.fn.rules.items l.rules.items

@@ -1,6 +1,6 @@
 -- What the value of a text says, and what is told of a text without one.
 use Rattle.std.proofs.Common.{◌≡◌, ◌∙◌, ap, sym, subst, Err, IfErr, IfOk, Ok}
-use Rattle.nft_reader.specs.Known.{question_of}
+use Rattle.nft_reader.specs.Ruleset.{question}
 use Rattle.nft_reader.specs.Ruleset.{chains_of_document, chains_of_text}
 use Rattle.nft_reader.specs.Stops.{IsToldOf}
 use Rattle.nft_reader.proofs.Texts.{no_text, text_is}
@@ -8,20 +8,20 @@ use Rattle.nft_reader.proofs.ruleset.read_text.Goals as goal
 
 pub returns-in-Ok-clause-chains : goal.returns-in-Ok-clause-chains
 returns-in-Ok-clause-chains c =
-    let question = question_of c.args.question in
-    let whole = text_is question c.args.bytes.now c.in-Ok.ensures.ok.0
-    ∙ ap (chains_of_document question) c.in-Ok.ensures.ok.1 in
+    let asked = question c.args.asked c.args.assumed.now in
+    let whole = text_is asked c.args.bytes.now c.in-Ok.ensures.ok.0
+    ∙ ap (chains_of_document asked) c.in-Ok.ensures.ok.1 in
     subst (λ said. IfOk c.read_value.result (λ chains. said ≡ Ok chains.items)) (sym whole) c.read_value.ensures.chains
 
 pub returns-in-Ok-clause-fault : goal.returns-in-Ok-clause-fault
 returns-in-Ok-clause-fault c =
-    let question = question_of c.args.question in
-    let whole = text_is question c.args.bytes.now c.in-Ok.ensures.ok.0
-    ∙ ap (chains_of_document question) c.in-Ok.ensures.ok.1 in
+    let asked = question c.args.asked c.args.assumed.now in
+    let whole = text_is asked c.args.bytes.now c.in-Ok.ensures.ok.0
+    ∙ ap (chains_of_document asked) c.in-Ok.ensures.ok.1 in
     subst (λ said. IfErr c.read_value.result (IsToldOf said)) (sym whole) c.read_value.ensures.fault
 
 pub returns-in-Err-Invalid-clause-fault : goal.returns-in-Err-Invalid-clause-fault
 returns-in-Err-Invalid-clause-fault c =
-    let question = question_of c.args.question in
-    subst (IsToldOf (chains_of_text question c.args.bytes.now)) (sym c.whole_fault.ensures)
-    (no_text question c.args.bytes.now (c.in-Err-Invalid.ensures.invalid (ap Err c.in-Err-Invalid.field-0-is)))
+    let asked = question c.args.asked c.args.assumed.now in
+    subst (IsToldOf (chains_of_text asked c.args.bytes.now)) (sym c.whole_fault.ensures)
+    (no_text asked c.args.bytes.now (c.in-Err-Invalid.ensures.invalid (ap Err c.in-Err-Invalid.field-0-is)))

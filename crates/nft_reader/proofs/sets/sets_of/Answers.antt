@@ -3,8 +3,9 @@ use Rattle.std.proofs.Common.{◌+◌, ◌++◌, map, drop, sym, ap, ◌∙◌, 
 use Rattle.std.proofs.lemmas.List.{append-nil, append_assoc, drop_all}
 use Rattle.std.proofs.lemmas.List.Concat.{flat_map-cons}
 use Rattle.list_lemmas.proofs.Loops.{left_is}
+use Rattle.std.specs.Option.{option_to_list}
 use Rattle.json.specs.Value.{value_view}
-use Rattle.nft_reader.specs.Sets.{set_list, set_object, set_of, sets_in}
+use Rattle.nft_reader.specs.Sets.{set_object, set_of, sets_in}
 use Rattle.nft_reader.proofs.sets.sets_of.Goals as goal
 
 pub loop-object-preserved : goal.loop-object-preserved
@@ -15,12 +16,12 @@ loop-object-preserved c =
     let all = map value_view xs in
     let rest = map value_view (drop (l.object-index + 1) xs) in
     let here = left_is xs l.object-index x (omega arith) c.object-item.is in
-    let one = set_list (set_object all (value_view x)) in
+    let one = option_to_list (set_object all (value_view x)) in
     ap (λ sets. sets ++ sets_in all rest) c.in_ok-put_set.ensures
     ∙ append_assoc (map set_of l.found.items) one (sets_in all rest)
     ∙ ap (λ sets. map set_of l.found.items ++ sets)
     (sym (ap (λ values. sets_in all (map value_view values)) here
-    ∙ flat_map-cons (λ value. set_list (set_object all value)) (value_view x) rest))
+    ∙ flat_map-cons (λ value. option_to_list (set_object all value)) (value_view x) rest))
     ∙ l.invariant
 
 pub returns : goal.returns

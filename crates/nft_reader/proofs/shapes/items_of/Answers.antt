@@ -8,6 +8,6 @@ use Rattle.nft_reader.proofs.shapes.items_of.Goals as goal
 
 pub returns-in-Array : goal.returns-in-Array
 returns-in-Array c =
-    ap (λ it. items_of (value_view it)) c.in-Array.is
+    sym (ap (λ it. items_of (value_view it)) c.in-Array.is
     ∙ ap items_of (view-Array c.in-Array.items)
-    ∙ ap Some (list_of_view c.in-Array.items.items ∙ ap (map value_view) (sym c.as_slice.ensures.value))
+    ∙ ap Some (list_of_view c.in-Array.items.items ∙ ap (map value_view) (sym c.as_slice.ensures.value)))
