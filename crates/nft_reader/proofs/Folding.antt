@@ -1,5 +1,5 @@
 -- Loops that may end early: what is left to do of a list, seen through a function.
-use Rattle.std.proofs.Common.{◌≡◌, ℕ, ◌+◌, ◌<◌, ◌≤◌, List, [], ◌∷◌, length, map, drop, get_or, Result, Ok, Err, refl, ap, ◌∙◌, sym}
+use Rattle.std.proofs.Common.{◌≡◌, ℕ, ◌+◌, ◌<◌, ◌≤◌, List, [], ◌∷◌, length, map, drop, get_or, Result, Ok, refl, ap, ◌∙◌, sym}
 use Rattle.std.proofs.lemmas.List.{drop_all, drop_more}
 use Rattle.nft_reader.specs.Stops.{◌>>=◌, Refuses, folded}
 use Rattle.nft_reader.specs.declared.fault.Stop.{Stop}

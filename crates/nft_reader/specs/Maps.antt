@@ -2,20 +2,17 @@
 -- packets are those of two elements, so that their order doesn't matter; elements that overlap
 -- aren't said. The element `*` has the packets of no other element. Packets of no element, and
 -- those of an element that says to go on, come to the next rule.
-use Rattle.std.specs.Prelude.{ℕ, ◌&&◌, ◌==◌, Bool, true, false, if◌then◌else◌, nat_le, codes}
+use Rattle.std.specs.Prelude.{◌&&◌, ◌==◌, Bool, true, false, if◌then◌else◌, nat_le, codes}
 use Rattle.std.specs.Prelude.{List, [], ◌∷◌, ◌++◌, Option, Some, None, option_and_then}
 use Rattle.std.specs.Prelude.{Result, Ok, Err}
 use Rattle.std.specs.List.{list_any}
-use Rattle.std.specs.Str.{bytes_eq}
 use Rattle.json.specs.Json.{Json}
 use Rattle.json.specs.Find.{as_str, get}
 use Rattle.field_defs.specs.declared.field.Family.{Family}
 use Rattle.list_chains.specs.declared.span.Span.{Span}
 use Rattle.iptables_reader.specs.declared.packets.Packets.{Packets}
 use Rattle.iptables_reader.specs.declared.values.AddressSpans.{AddressSpans}
-use Rattle.iptables_reader.specs.Packets.{CaughtBoxes, all_packets, with_boxes}
-use Rattle.nft_reader.specs.declared.compared.Holders.{Holders}
-use Rattle.nft_reader.specs.declared.compared.Holders.TheVariants as holders
+use Rattle.iptables_reader.specs.Packets.{all_packets, with_boxes}
 use Rattle.nft_reader.specs.declared.compared.Left.{Left}
 use Rattle.nft_reader.specs.declared.compared.Left.TheVariants as left
 use Rattle.nft_reader.specs.declared.fault.RuleKind.{RuleKind}

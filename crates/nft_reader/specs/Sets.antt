@@ -2,8 +2,8 @@
 -- as it is listed, if neither time nor packets change it. Packets change a set where a rule of its
 -- table adds elements to it: the list doesn't show a flag for this.
 use Rattle.std.specs.Prelude.{ℕ, ◌+◌, ◌==◌, Bool, true, false, ◌&&◌, ◌||◌, not, is_some}
-use Rattle.std.specs.Prelude.{if◌then◌else◌, codes, List, [], ◌∷◌, map, take, drop}
-use Rattle.std.specs.Prelude.{Option, Some, None, option_and_then, Result, Ok, Err}
+use Rattle.std.specs.Prelude.{if◌then◌else◌, codes, List, [], ◌∷◌, take, drop}
+use Rattle.std.specs.Prelude.{Option, Some, None, option_and_then, Result, Err}
 use Rattle.std.specs.List.{flat_map, list_all, list_any}
 use Rattle.std.specs.Option.{option_map, option_to_list}
 use Rattle.std.specs.Str.{bytes_eq}

@@ -2,7 +2,7 @@
 use Rattle.std.proofs.Common.{◌+◌, map, drop, sym, ap, ◌∙◌, subst, arith, rules}
 use Rattle.std.proofs.lemmas.List.{drop_all}
 use Rattle.json.specs.Value.{value_view}
-use Rattle.nft_reader.specs.Keys.{parts_boxes, with_thing}
+use Rattle.nft_reader.specs.Keys.{parts_boxes}
 use Rattle.nft_reader.specs.Known.{question_of}
 use Rattle.nft_reader.specs.Stops.{◌>>=◌, Refuses}
 use Rattle.nft_reader.proofs.Folding.{then_stops}
