@@ -26,7 +26,8 @@ at_name text = if bytes_eq (take 1 text) (codes "@") then Some (drop 1 text) els
 -- the set that a statement adds elements to, or takes some from
 abbrev pub changed_by : Json → Option (List ℕ)
 changed_by statement =
-    option_and_then at_name (option_and_then (text_in (codes "set")) (said_by (codes "set") statement))
+    option_and_then at_name
+    (option_and_then (text_in (codes "set")) (said_by (codes "set") statement))
 
 -- a name is this one, if there is one
 abbrev pub is_text : List ℕ → Option (List ℕ) → Bool

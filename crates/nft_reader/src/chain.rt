@@ -116,7 +116,7 @@ impl NftChain {
         self.faults.as_slice()
     }
 
-    /// Whether it has this name in the table, and no policy where it is meant that rules lead to it.
+    /// Whether it has this name in the table, and no policy if it is meant that rules lead to it.
     fn is_meant(&self, owner: &Owner<'_>, name: &str, led: bool) -> bool
         ensures { result ≡ is_meant led (record (owner.now) { name = name.now }) self.now }
     {

@@ -307,7 +307,8 @@ impl Reading {
 
     /// What the rule says, unless there is a cause why no rule file says it.
     fn into_said(self, known: &Known<'_, '_, '_>) -> Result<Said, AllocError>
-        ensures { IfOk result (λ said. said ≡ readings.said_if (known_of known.now) self self.cause) }
+        ensures { IfOk result
+            (λ said. said ≡ readings.said_if (known_of known.now) self self.cause) }
     {
         match self.cause {
             Some(kind) if self.decides => {
@@ -357,8 +358,8 @@ impl<'k, 's, 'a> Known<'k, 's, 'a> {
 
     /// The statements of a rule, one after the other.
     fn read_all(&self, statements: &[Value<'a>]) -> Result<Reading, Stop<RuleKind>>
-        ensures { Gives result (folded (readings.with_statement (known_of self.now)) readings.no_reading
-            (map view statements.now)) }
+        ensures { Gives result (folded (readings.with_statement (known_of self.now))
+            readings.no_reading (map view statements.now)) }
     {
         let mut reading = Reading {
             compared: Vec::new(self.alloc),
@@ -374,8 +375,8 @@ impl<'k, 's, 'a> Known<'k, 's, 'a> {
 
     /// What the statements of a rule say.
     pub(crate) fn read(&self, statements: &[Value<'a>]) -> Result<Said, AllocError>
-        ensures { IfOk result
-            (λ said. said ≡ readings.with_statements (known_of self.now) (map view statements.now)) }
+        ensures { IfOk result (λ said. said
+            ≡ readings.with_statements (known_of self.now) (map view statements.now)) }
     {
         match self.read_all(statements) {
             Ok(reading) => reading.into_said(self),
