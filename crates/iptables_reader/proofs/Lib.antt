@@ -2,6 +2,5 @@ pub mod Folds
 pub mod JoinedWords
 pub mod ListLines
 pub mod NamedPlaces
-pub mod Prefixes
 pub mod Reaching
 pub mod SaidChains

@@ -3,6 +3,7 @@
 use Rattle.std.specs.Prelude.{ℕ, Bool, ◌&&◌, not, is_some, List, Option}
 use Rattle.std.specs.List.{position_from}
 use Rattle.std.specs.Str.{bytes_eq}
+use Rattle.field_defs.specs.declared.field.Family.{Family}
 use Rattle.list_chains.specs.declared.span.Span.{Span}
 use Rattle.list_chains.specs.Chains.{ListRule}
 use Rattle.iptables_reader.specs.declared.fault.LineFault.{LineFault}
@@ -22,3 +23,11 @@ is_meant led name chain = bytes_eq chain.name name && not (led && is_some chain.
 -- the place of a chain by its name
 abbrev pub place_of : Bool → List ℕ → List ListedChain → Option ℕ
 place_of led name chains = position_from (is_meant led name) 0 chains
+
+-- where a rule is read: in a list of packets of a family, of which something is assumed, with these
+-- chains, in the chain of a name
+pub record RuleSetting : Type 0 where
+  pub family : Family
+  pub assumed : List ℕ
+  pub chains : List ListedChain
+  pub chain : List ℕ

@@ -4,16 +4,14 @@ use Rattle.std.specs.Prelude.{◌≡◌, ℕ, ◌-◌, ◌==◌, Bool, true, fal
 use Rattle.std.specs.Prelude.{◌++◌, Option, Some, None, Ok, option_and_then}
 use Rattle.std.specs.List.{AllByRecursion, flat_map}
 use Rattle.std.specs.Str.{bytes_eq}
-use Rattle.field_defs.specs.declared.field.Family.{Family}
 use Rattle.iptables_reader.specs.declared.options.RuleOption.{RuleOption}
-use Rattle.iptables_reader.specs.declared.options.RuleOption.TheVariants as option
 use Rattle.iptables_reader.specs.declared.options.Match.{Match}
-use Rattle.iptables_reader.specs.declared.parts.Reading.{Reading}
+use Rattle.iptables_reader.specs.declared.reading.Reading.{Reading}
 use Rattle.iptables_reader.specs.declared.quotes.Quotes.{Quotes}
 use Rattle.iptables_reader.specs.declared.quotes.Quotes.TheVariants as quotes
 use Rattle.iptables_reader.specs.declared.tables.Listed.{Listed}
-use Rattle.iptables_reader.specs.Chains.{ListedChain}
-use Rattle.iptables_reader.specs.Options.{base_option, own_option}
+use Rattle.iptables_reader.specs.Chains.{RuleSetting}
+use Rattle.iptables_reader.specs.Options.{Row, any_option, own_option}
 use Rattle.iptables_reader.specs.Quotes.{first_quotes, quotes_after}
 use Rattle.iptables_reader.specs.Reading.{options_of}
 use Rattle.iptables_reader.specs.Tables.{match_table, option_in, target_table}
@@ -25,13 +23,13 @@ pub data IsNegation (words : List (List ℕ)) : Type 0 where
       → IsNegation words
 
 -- a word is the name of an option, of a match or of any rule
-pub data IsName (word : List ℕ) (it : RuleOption) : Type 0 where
-  Own : (kind : Match) → own_option kind word ≡ Some it → IsName word it
-  Any : base_option word ≡ Some it → IsName word it
+pub data IsName (word : List ℕ) (row : Row) : Type 0 where
+  Own : (kind : Match) → own_option kind word ≡ Some row → IsName word row
+  Any : any_option word ≡ Some row → IsName word row
 
 -- a word is the name of an option that so many words follow, which decide nothing
 pub data IsSkipped (word : List ℕ) (count : ℕ) : Type 0 where
-  Comment : IsName word option.Comment → count ≡ 1 → IsSkipped word count
+  Comment : (row : Row) → IsName word row → row.0 ≡ None → count ≡ 1 → IsSkipped word count
   OfMatch : (place : ℕ) (row : Listed) → option_in word place match_table ≡ Some row
       → count ≡ row.count → IsSkipped word count
   OfTarget : (place : ℕ) (row : Listed) → option_in word place target_table ≡ Some row
@@ -69,8 +67,9 @@ AreWords count parts =
 -- The words of a whole option, perhaps after `!`: a name and a value, or a name and words that
 -- decide nothing.
 pub data IsOption (words : List (List ℕ)) : Type 0 where
-  Value : (negation : List (List ℕ)) (name value : List ℕ) (it : RuleOption) → IsNegation negation
-      → IsName name it → words ≡ negation ++ name ∷ value ∷ [] → IsOption words
+  Value : (negation : List (List ℕ)) (name value : List ℕ) (row : Row) (it : RuleOption)
+      → IsNegation negation → IsName name row → row.0 ≡ Some it
+      → words ≡ negation ++ name ∷ value ∷ [] → IsOption words
   Skipped : (negation : List (List ℕ)) (name : List ℕ) (count : ℕ) (parts : List (List ℕ))
       → IsNegation negation → IsSkipped name count → AreWords count parts
       → words ≡ negation ++ name ∷ parts → IsOption words
@@ -84,6 +83,5 @@ pub record AreOptions (words : List (List ℕ)) : Type 0 where
 -- the words of a rule that is read, after the name of its chain, are such
 abbrev pub ReadWordsAreOptions : Type 0
 ReadWordsAreOptions =
-    (family : Family) (assumed : List ℕ) (chains : List ListedChain) (chain : List ℕ)
-    (words : List (List ℕ)) (reading : Reading)
-    → options_of family assumed chains chain words ≡ Ok reading → AreOptions words
+    (setting : RuleSetting) (words : List (List ℕ)) (reading : Reading)
+    → options_of setting words ≡ Ok reading → AreOptions words

@@ -1,9 +1,14 @@
 -- Quotes around a word that has blanks (iptables-restore(8)): they stand at both its ends, and a
 -- backslash within them before what is meant literally.
 use Rattle.std.specs.Prelude.{ℕ, ◌==◌, Bool, false, not, ◌&&◌, if◌then◌else◌, List, [], ◌∷◌, length}
+use Rattle.std.specs.Prelude.{Result, Ok, Err}
+use Rattle.std.proofs.Common.{zero, suc}
 use Rattle.std.specs.List.{list_any}
+use Rattle.iptables_reader.specs.declared.fault.LineKind.{LineKind}
+use Rattle.iptables_reader.specs.declared.fault.LineKind.TheVariants.{MissingWord, BadQuotes}
 use Rattle.iptables_reader.specs.declared.quotes.Quotes.{Quotes}
 use Rattle.iptables_reader.specs.declared.quotes.Quotes.TheVariants.{Closed, Open, Broken}
+use Rattle.iptables_reader.specs.Stops.{◌>>=◌}
 
 -- quotes that end before so many bytes of a part
 abbrev pub ended_quotes : ℕ → Quotes
@@ -31,3 +36,27 @@ bare_quotes text = if list_any (λ c. c == 34) text then Broken else Closed
 abbrev pub first_quotes : List ℕ → Quotes
 first_quotes [] = Closed
 first_quotes (c ∷ cs) = if c == 34 then quotes_after false cs else bare_quotes (c ∷ cs)
+
+-- ---- words that decide nothing
+
+-- after quotes the words are left that follow, or those that end the quotes still come
+abbrev pub by_quotes : Quotes → List (List ℕ) → Result (List (List ℕ)) LineKind →
+    Result (List (List ℕ)) LineKind
+by_quotes Closed words ended = Ok words
+by_quotes Open words ended = ended
+by_quotes Broken words ended = Err BadQuotes
+
+-- the words after quotes that are open
+abbrev pub after_open : List (List ℕ) → Result (List (List ℕ)) LineKind
+after_open [] = Err MissingWord
+after_open (part ∷ parts) = by_quotes (quotes_after false part) parts (after_open parts)
+
+-- the words after the first one, which stands in several parts where it has blanks
+abbrev pub after_word : List (List ℕ) → Result (List (List ℕ)) LineKind
+after_word [] = Err MissingWord
+after_word (part ∷ parts) = by_quotes (first_quotes part) parts (after_open parts)
+
+-- the words after so many
+abbrev pub after_words : ℕ → List (List ℕ) → Result (List (List ℕ)) LineKind
+after_words zero words = Ok words
+after_words (suc count) words = after_word words >>= after_words count

@@ -1,7 +1,7 @@
 -- A list of iptables-save or ip6tables-save, line by line: the table `filter`, its chains, their
 -- rules, and COMMIT (iptables-save(8), iptables-restore(8)). Empty lines, and lines that begin with
 -- `#`, say nothing.
-use Rattle.std.specs.Prelude.{ℕ, ◌+◌, ◌==◌, Bool, true, false, ◌||◌, nat_lt, is_some, slice_set}
+use Rattle.std.specs.Prelude.{ℕ, ◌+◌, ◌==◌, Bool, true, false, not, ◌||◌, nat_lt, is_some, slice_set}
 use Rattle.std.specs.Prelude.{drop, slice_index_or, if◌then◌else◌, codes, List, [], ◌∷◌, ◌++◌, length}
 use Rattle.std.specs.Prelude.{Option, Some, None, Result, Ok, Err}
 use Rattle.std.specs.Str.{bytes_eq}
@@ -12,41 +12,51 @@ use Rattle.list_chains.specs.declared.chain.Target.TheVariants as target
 use Rattle.list_chains.specs.Chains.{ListRule}
 use Rattle.iptables_reader.specs.declared.options.Verdict.{Verdict}
 use Rattle.iptables_reader.specs.declared.options.Verdict.TheVariants as verdict
-use Rattle.iptables_reader.specs.declared.parts.Act.{Act}
-use Rattle.iptables_reader.specs.declared.parts.Act.TheVariants as act
-use Rattle.iptables_reader.specs.declared.parts.Reading.{Reading}
+use Rattle.iptables_reader.specs.declared.reading.Act.{Act}
+use Rattle.iptables_reader.specs.declared.reading.Act.TheVariants as act
+use Rattle.iptables_reader.specs.declared.reading.Reading.{Reading}
 use Rattle.iptables_reader.specs.declared.fault.LineFault.{LineFault}
 use Rattle.iptables_reader.specs.declared.fault.LineKind.{LineKind}
 use Rattle.iptables_reader.specs.declared.fault.LineKind.TheVariants.{FileTooLong, NoTable, OtherTable}
 use Rattle.iptables_reader.specs.declared.fault.LineKind.TheVariants.{SecondTable, NoCommit, BadChain}
 use Rattle.iptables_reader.specs.declared.fault.LineKind.TheVariants.{ChainTwice, LateChain, BadPolicy}
 use Rattle.iptables_reader.specs.declared.table.TheConstants.{MAX_LIST}
-use Rattle.iptables_reader.specs.declared.table.Answers.{Answers}
-use Rattle.iptables_reader.specs.declared.table.Answers.TheVariants as answers
-use Rattle.iptables_reader.specs.declared.table.Asked.{Asked}
-use Rattle.iptables_reader.specs.declared.table.Role.{Role}
-use Rattle.iptables_reader.specs.declared.table.Role.TheVariants as role
+use Rattle.iptables_reader.specs.declared.answers.Answers.{Answers}
+use Rattle.iptables_reader.specs.declared.answers.Answers.TheVariants as answers
+use Rattle.iptables_reader.specs.declared.answers.Asked.{Asked}
 use Rattle.iptables_reader.specs.declared.table.Stage.{Stage}
 use Rattle.iptables_reader.specs.declared.table.Stage.TheVariants as stage
-use Rattle.iptables_reader.specs.Chains.{ListedChain, place_of}
+use Rattle.iptables_reader.specs.Chains.{ListedChain, RuleSetting, place_of}
 use Rattle.iptables_reader.specs.Options.{is_target}
-use Rattle.iptables_reader.specs.Packets.{rules_of}
-use Rattle.iptables_reader.specs.Reading.{◌>>=◌, head_of, options_of}
+use Rattle.list_packets.specs.Packets.{rules_of_caught}
+use Rattle.list_packets.specs.Values.{first_of}
+use Rattle.iptables_reader.specs.Reading.{head_of, options_of}
 use Rattle.iptables_reader.specs.Reached.{unless_unsaid, unsaid_from}
-use Rattle.iptables_reader.specs.Values.{first_of, is_counters}
+use Rattle.iptables_reader.specs.OptionValues.{unless}
+use Rattle.iptables_reader.specs.Stops.{◌>>=◌}
+use Rattle.iptables_reader.specs.Values.{is_counters}
 
 -- how many bytes a list may have
 abbrev pub max_list : ℕ
 max_list = MAX_LIST
 
--- how far the list was read, and the chains so far
+-- What was read of a list, for which something is asked and assumed: how many lines, how far they
+-- lead, and the chains so far.
 pub record TableSoFar : Type 0 where
+  pub asked : Asked
+  pub assumed : List ℕ
+  pub number : ℕ
   pub stage : Stage
   pub chains : List ListedChain
 
 -- nothing was read
-abbrev pub no_table : TableSoFar
-no_table = record { stage = stage.Before; chains = [] }
+abbrev pub no_table : Asked → List ℕ → TableSoFar
+no_table asked assumed =
+    record { asked = asked; assumed = assumed; number = 0; stage = stage.Before; chains = [] }
+
+-- one line more is read
+abbrev pub counted : TableSoFar → TableSoFar
+counted table = record table { number = table.number + 1 }
 
 -- ---- the answers of rules
 
@@ -108,44 +118,43 @@ policy_of asked number name word =
     if is_base name then base_policy asked number (policy_named word)
     else (if bytes_eq word (codes "-") then Ok None else Err BadPolicy)
 
--- a chain that a line declares, and the answer of its policy
+-- a chain by its name, and the word of its policy
 pub record Declaration : Type 0 where
   pub name : List ℕ
-  pub policy : Option ℕ
+  pub word : List ℕ
 
--- a chain is declared once, and isn't named as a target
-abbrev pub declared : Asked → ℕ → List ListedChain → List ℕ → List ℕ → Result Declaration LineKind
-declared asked number chains name word =
-    if is_target name then Err BadChain
-    else (if is_some (place_of false name chains) then Err ChainTwice
-    else (policy_of asked number name word
-    >>= λ policy. Ok (record { name = name; policy = policy })))
-
--- the words of a declaration after its `:`: a name, a policy, and counters
-abbrev pub declaration_of : Asked → ℕ → List ListedChain → List (List ℕ) →
-    Result Declaration LineKind
-declaration_of asked number chains [] = Err BadChain
-declaration_of asked number chains (name ∷ []) = Err BadChain
-declaration_of asked number chains (name ∷ policy ∷ []) = Err BadChain
-declaration_of asked number chains (name ∷ policy ∷ counters ∷ []) =
-    if is_counters counters then declared asked number chains name policy else Err BadChain
-declaration_of asked number chains (name ∷ policy ∷ counters ∷ word ∷ words) = Err BadChain
+-- the words of a declaration after its `:`: a name, which isn't that of a target, a policy, and
+-- counters
+abbrev pub declaration_of : List (List ℕ) → Result Declaration LineKind
+declaration_of [] = Err BadChain
+declaration_of (name ∷ []) = Err BadChain
+declaration_of (name ∷ word ∷ []) = Err BadChain
+declaration_of (name ∷ word ∷ counters ∷ []) =
+    unless (not (is_counters counters) || is_target name) BadChain
+    (Ok (record { name = name; word = word }))
+declaration_of (name ∷ word ∷ counters ∷ more ∷ words) = Err BadChain
 
 -- the table with one more chain, which has no rules
-abbrev pub with_chain : TableSoFar → Declaration → TableSoFar
-with_chain table said = record table {
-  chains = table.chains ++ record {
-    name = said.name;
-    policy = said.policy;
-    rules = [];
-    unsaid = None;
-  } ∷ [];
+abbrev pub with_chain : TableSoFar → List ℕ → Option ℕ → TableSoFar
+with_chain table name policy = record table {
+  chains = table.chains ++ record { name = name; policy = policy; rules = []; unsaid = None } ∷ [];
 }
 
--- a line that declares a chain, after its `:`
-abbrev pub with_declaration : Asked → ℕ → TableSoFar → List ℕ → Result TableSoFar LineKind
-with_declaration asked number table text =
-    declaration_of asked number table.chains (words_of text) >>= λ said. Ok (with_chain table said)
+-- rules follow the chains
+abbrev pub is_ruling : Stage → Bool
+is_ruling stage.Before = false
+is_ruling stage.Declaring = false
+is_ruling stage.Ruling = true
+is_ruling stage.After = false
+
+-- a line that declares a chain, after its `:`: once, and before any rule
+abbrev pub with_declaration : TableSoFar → List ℕ → Result TableSoFar LineKind
+with_declaration table text =
+    unless (is_ruling table.stage) LateChain
+    (declaration_of (words_of text) >>= λ said.
+    unless (is_some (place_of false said.name table.chains)) ChainTwice
+    (policy_of table.asked table.number said.name said.word >>= λ policy.
+    Ok (with_chain table said.name policy)))
 
 -- ---- rules
 
@@ -153,52 +162,49 @@ with_declaration asked number table text =
 abbrev pub no_chain : ListedChain
 no_chain = record { name = []; policy = None; rules = []; unsaid = None }
 
--- a chain with more rules
-abbrev pub more_rules : List (ListRule (List Span)) → ListedChain → ListedChain
-more_rules rules chain = record chain { rules = chain.rules ++ rules }
-
 -- a chain with a line that no rule file says: the first one counts
 abbrev pub with_unsaid : ℕ → LineKind → ListedChain → ListedChain
 with_unsaid number kind chain =
     record chain { unsaid = first_of chain.unsaid (Some (record { line = number; kind = kind })) }
 
--- a chain with a rule, unless there is a cause why no rule file says it
-abbrev pub with_act : Asked → List ℕ → ℕ → Reading → Act → Option LineKind → ListedChain →
-    ListedChain
-with_act asked assumed number reading does (Some kind) chain = with_unsaid number kind chain
-with_act asked assumed number reading does None chain =
-    more_rules
-    (rules_of asked.family assumed reading (act_answer asked.answers number does)
-    (act_target does)) chain
+-- a chain with the rules of a line, unless there is a cause why no rule file says it
+abbrev pub with_act : Asked → ℕ → Reading → Act → Option LineKind → ListedChain → ListedChain
+with_act asked number reading does (Some kind) chain = with_unsaid number kind chain
+with_act asked number reading does None chain = record chain {
+  rules = chain.rules ++ rules_of_caught asked.family reading.caught
+      (act_answer asked.answers number does) (act_target does);
+}
 
 -- a chain with a line; of a rule that does nothing the next one decides
-abbrev pub with_said : Asked → List ℕ → ℕ → Reading → Option Act → ListedChain → ListedChain
-with_said asked assumed number reading None chain = chain
-with_said asked assumed number reading (Some does) chain =
-    with_act asked assumed number reading does reading.cause chain
+abbrev pub with_said : Asked → ℕ → Reading → Option Act → ListedChain → ListedChain
+with_said asked number reading None chain = chain
+with_said asked number reading (Some does) chain =
+    with_act asked number reading does reading.cause chain
 
 -- the table with a rule, after which no chain is declared
-abbrev pub with_reading : Asked → List ℕ → ℕ → TableSoFar → ℕ → Reading → TableSoFar
-with_reading asked assumed number table place reading = record {
+abbrev pub with_reading : TableSoFar → ℕ → Reading → TableSoFar
+with_reading table place reading = record table {
   stage = stage.Ruling;
   chains = slice_set table.chains place
-      (with_said asked assumed number reading reading.act
+      (with_said table.asked table.number reading reading.act
       (slice_index_or table.chains place no_chain));
 }
 
--- the table with what stands after the name of a rule's chain
-abbrev pub with_options : Asked → List ℕ → ℕ → TableSoFar → ℕ → List (List ℕ) →
-    Result TableSoFar LineKind
-with_options asked assumed number table place words =
-    options_of asked.family assumed table.chains (slice_index_or table.chains place no_chain).name
-    words
-    >>= λ reading. Ok (with_reading asked assumed number table place reading)
+-- where the rules of the chain at a place are read
+abbrev pub setting_at : TableSoFar → ℕ → RuleSetting
+setting_at table place = record {
+  family = table.asked.family;
+  assumed = table.assumed;
+  chains = table.chains;
+  chain = (slice_index_or table.chains place no_chain).name;
+}
 
 -- a line of a rule
-abbrev pub with_rule : Asked → List ℕ → ℕ → TableSoFar → List ℕ → Result TableSoFar LineKind
-with_rule asked assumed number table line =
+abbrev pub with_rule : TableSoFar → List ℕ → Result TableSoFar LineKind
+with_rule table line =
     head_of table.chains (words_of line) >>= λ head.
-    with_options asked assumed number table head.chain head.words
+    options_of (setting_at table head.chain) head.words >>= λ reading.
+    Ok (with_reading table head.chain reading)
 
 -- ---- lines
 
@@ -212,50 +218,35 @@ abbrev pub begins : ℕ → List ℕ → Bool
 begins byte [] = false
 begins byte (c ∷ cs) = c == byte
 
--- what a line before the table is, which may begin it; 42 is `*`
-abbrev pub first_role : List ℕ → Result Role LineKind
-first_role line =
-    if bytes_eq line (codes "*filter") then Ok role.Begin
-    else (if begins 42 line then Err OtherTable else Err NoTable)
+-- a line before the table, which has to begin it; 42 is `*`
+abbrev pub begun : TableSoFar → List ℕ → Result TableSoFar LineKind
+begun table line =
+    if bytes_eq line (codes "*filter") then Ok (record table { stage = stage.Declaring })
+    else Err (if begins 42 line then OtherTable else NoTable)
 
--- what a line of the table is, where chains may be declared; 58 is `:`
-abbrev pub table_role : Bool → List ℕ → Result Role LineKind
-table_role may_declare line =
-    if bytes_eq line (codes "COMMIT") then Ok role.End
-    else (if begins 58 line then (if may_declare then Ok role.Declaration else Err LateChain)
-    else Ok role.Rule)
+-- a line of the table: its end, a chain, or a rule; 58 is `:`
+abbrev pub with_inside : TableSoFar → List ℕ → Result TableSoFar LineKind
+with_inside table line =
+    if bytes_eq line (codes "COMMIT") then Ok (record table { stage = stage.After })
+    else (if begins 58 line then with_declaration table (drop 1 line) else with_rule table line)
 
--- what a line is that isn't skipped, by how far the list was read
-abbrev pub said_role : Stage → List ℕ → Result Role LineKind
-said_role stage.Before line = first_role line
-said_role stage.Declaring line = table_role true line
-said_role stage.Ruling line = table_role false line
-said_role stage.After line = Err SecondTable
+-- a line that says something, by how far the list was read
+abbrev pub with_staged : Stage → TableSoFar → List ℕ → Result TableSoFar LineKind
+with_staged stage.Before table line = begun table line
+with_staged stage.Declaring table line = with_inside table line
+with_staged stage.Ruling table line = with_inside table line
+with_staged stage.After table line = Err SecondTable
 
--- what a line is
-abbrev pub role_of : Stage → List ℕ → Result Role LineKind
-role_of stage line = if is_skipped line then Ok role.Skipped else said_role stage line
-
--- the table with what a line says that is such a one
-abbrev pub with_role : Asked → List ℕ → ℕ → TableSoFar → List ℕ → Role → Result TableSoFar LineKind
-with_role asked assumed number table line role.Skipped = Ok table
-with_role asked assumed number table line role.Begin = Ok (record table { stage = stage.Declaring })
-with_role asked assumed number table line role.Declaration =
-    with_declaration asked number table (drop 1 line)
-with_role asked assumed number table line role.Rule = with_rule asked assumed number table line
-with_role asked assumed number table line role.End = Ok (record table { stage = stage.After })
-
--- the table with a line
-abbrev pub with_line : Asked → List ℕ → ℕ → TableSoFar → List ℕ → Result TableSoFar LineKind
-with_line asked assumed number table line =
-    role_of table.stage line >>= with_role asked assumed number table line
+-- the table with a line, which was counted
+abbrev pub with_line : TableSoFar → List ℕ → Result TableSoFar LineKind
+with_line table line = if is_skipped line then Ok table else with_staged table.stage table line
 
 -- the chains, where the table has ended
-abbrev pub ended : ℕ → TableSoFar → Stage → Result (List ListedChain) LineFault
-ended number table stage.After = Ok table.chains
-ended number table stage.Before = Err (record { line = number; kind = NoCommit })
-ended number table stage.Declaring = Err (record { line = number; kind = NoCommit })
-ended number table stage.Ruling = Err (record { line = number; kind = NoCommit })
+abbrev pub ended : TableSoFar → Stage → Result (List ListedChain) LineFault
+ended table stage.After = Ok table.chains
+ended table stage.Before = Err (record { line = table.number; kind = NoCommit })
+ended table stage.Declaring = Err (record { line = table.number; kind = NoCommit })
+ended table stage.Ruling = Err (record { line = table.number; kind = NoCommit })
 
 -- the fault of a line, or what the lines after it make
 abbrev pub line_then : ℕ → Result TableSoFar LineKind →
@@ -264,19 +255,17 @@ abbrev pub line_then : ℕ → Result TableSoFar LineKind →
 line_then number (Err kind) following = Err (record { line = number; kind = kind })
 line_then number (Ok table) following = following table
 
--- what lines make of a table after so many lines: the first fault is that of the list
-unfoldable pub with_lines : Asked → List ℕ → ℕ → TableSoFar → List (List ℕ) →
-    Result (List ListedChain) LineFault
-with_lines asked assumed number table [] = ended number table table.stage
-with_lines asked assumed number table (line ∷ lines) =
-    line_then (number + 1) (with_line asked assumed (number + 1) table line)
-    (λ more. with_lines asked assumed (number + 1) more lines)
+-- what lines make of a table: the first fault is that of the list
+unfoldable pub with_lines : TableSoFar → List (List ℕ) → Result (List ListedChain) LineFault
+with_lines table [] = ended table table.stage
+with_lines table (line ∷ lines) =
+    line_then (table.number + 1) (with_line (counted table) line) (λ more. with_lines more lines)
 
 -- all chains of a list, under what is assumed, or its first faulty line
 abbrev pub list_of : Asked → List ℕ → List ℕ → Result (List ListedChain) LineFault
 list_of asked assumed bytes =
     if nat_lt max_list (length bytes) then Err (record { line = 0; kind = FileTooLong })
-    else with_lines asked assumed 0 no_table (lines_of bytes)
+    else with_lines (no_table asked assumed) (lines_of bytes)
 
 -- the chains, if each line is said that packets of the named chain may come to
 abbrev pub said_from : List ℕ → Result (List ListedChain) LineFault →

@@ -6,7 +6,9 @@ use Rattle.std.specs.Prelude.{List, [], ◌∷◌, ◌++◌, drop, Option, Some,
 use Rattle.std.specs.Str.{bytes_eq}
 use Rattle.text_scan.specs.Parts.{slash, cut_at, words_of}
 use Rattle.iptables_reader.specs.declared.tables.Listed.{Listed}
-use Rattle.iptables_reader.specs.Values.{first_of, max_protocol, plain_number}
+use Rattle.list_packets.specs.Values.{first_of, plain_number}
+use Rattle.field_defs.specs.declared.field.Family.{Family}
+use Rattle.field_defs.specs.declared.field.Family.TheVariants.{Ip4, Ip6}
 
 -- the numbers of protocols by their names (protocols(5), with those that iptables adds)
 unfoldable pub protocol_table : List ℕ
@@ -24,11 +26,6 @@ protocol_table =
 unfoldable pub state_table : List ℕ
 state_table =
     codes "INVALID=1 NEW=2 ESTABLISHED=3 RELATED=4 UNTRACKED=5 SNAT=6 DNAT=6"
-
--- the states that can be assumed
-unfoldable pub assumed_state_table : List ℕ
-assumed_state_table =
-    codes "invalid=1 new=2 established=3 related=4 untracked=5"
 
 -- the matches, each before those of its options that no rule file says
 unfoldable pub match_table : List ℕ
@@ -77,26 +74,15 @@ target_table =
     ++ codes "--rateest-ewmalog TOS --set-tos --and-tos --or-tos --xor-tos DSCP --set-dscp "
     ++ codes "--set-dscp-class TTL --ttl-set --ttl-dec --ttl-inc HL --hl-set --hl-dec --hl-inc"
 
--- ---- names with numbers
-
--- the number after the `=` around which a word is cut, if the name stands before it
-abbrev pub number_of_cut : List ℕ → Option (List ℕ × List ℕ) → Option ℕ
-number_of_cut name None = None
-number_of_cut name (Some cut) = if bytes_eq cut.0 name then plain_number 255 cut.1 else None
-
--- the number of a word, if it is that of the name; 61 is `=`
-abbrev pub number_said : List ℕ → List ℕ → Option ℕ
-number_said name word = number_of_cut name (cut_at 61 word)
-
--- the number that the first word has that is one of the name
-abbrev pub number_in : List ℕ → List (List ℕ) → Option ℕ
-number_in name [] = None
-number_in name (word ∷ words) = first_of (number_said name word) (number_in name words)
-
--- the number of a protocol, by its name or its number
-abbrev pub protocol_of : List ℕ → Option ℕ
-protocol_of word =
-    first_of (number_in word (words_of protocol_table)) (plain_number max_protocol word)
+-- what REJECT of a family may answer, besides a reset
+unfoldable pub answer_table : Family → List ℕ
+answer_table Ip4 =
+    codes "icmp-port-unreachable icmp-net-unreachable icmp-host-unreachable "
+    ++ codes "icmp-proto-unreachable icmp-net-prohibited icmp-host-prohibited "
+    ++ codes "icmp-admin-prohibited"
+answer_table Ip6 =
+    codes "icmp6-port-unreachable icmp6-no-route icmp6-adm-prohibited icmp6-addr-unreachable "
+    ++ codes "icmp6-policy-fail icmp6-reject-route"
 
 -- ---- owners with options
 

@@ -4,13 +4,11 @@ ghost use Rattle.std.specs.Prelude.{◌≡◌, ◌<◌, ◌≤◌, drop, length,
 ghost use Rattle.std.specs.List.{position_from};
 ghost use Rattle.iptables_reader.specs.Chains.{is_meant, place_of};
 
-use crate::caught::boxes_of_rule;
+use crate::answers::{Asked, act_answer, act_target};
 use crate::fault::{LineFault, LineKind};
-use crate::packets::put_rules;
-use crate::parts::Reading;
-use crate::table::{Asked, act_answer, act_target};
-use field_defs::Family;
-use list_chains::{Chain, ChainRule, Target};
+use crate::reading::Reading;
+use list_chains::{Chain, ChainRule};
+use list_packets::put_rules;
 use std::alloc::{AllocError, Global};
 use std::marker::Model;
 
@@ -39,8 +37,7 @@ impl Model for SavedChain {
 
 impl SavedChain {
     ghost use Rattle.std.specs.Prelude.{◌≡◌, [], None, OnOk};
-    ghost use Rattle.iptables_reader.specs.Packets.{rules_of};
-    ghost use Rattle.iptables_reader.specs.Table.{more_rules, with_said, with_unsaid};
+    ghost use Rattle.iptables_reader.specs.Table.{with_said, with_unsaid};
 
     /// A chain of this name and this policy, without rules.
     pub(crate) fn new(alloc: Global, name: Vec<u8>, policy: Option<u32>) -> SavedChain
@@ -81,12 +78,11 @@ impl SavedChain {
         &mut self,
         alloc: Global,
         asked: Asked,
-        assumed: &[u8],
         number: u32,
         reading: &Reading,
     ) -> Result<(), AllocError>
-        ensures said { OnOk result (self.new
-            ≡ with_said asked assumed.now number reading.now reading.now.act self.old) }
+        ensures said { OnOk result
+            (self.new ≡ with_said asked number reading.now reading.now.act self.old) }
         ensures name { self.new.name ≡ self.old.name }
     {
         let Some(act) = reading.act else {
@@ -96,14 +92,15 @@ impl SavedChain {
             self.put_unsaid(number, kind);
             return Ok(());
         }
-        let answer = act_answer(asked.answers, number, act);
-        self.put_rules(
+        let userdata = act_answer(asked.answers, number, act);
+        let target = act_target(act);
+        put_rules(
             alloc,
             asked.family,
-            assumed,
-            reading,
-            answer,
-            act_target(act),
+            &reading.caught,
+            userdata,
+            target,
+            &mut self.rules,
         )
     }
 
@@ -114,24 +111,6 @@ impl SavedChain {
         if self.unsaid.is_none() {
             self.unsaid = Some(LineFault { line, kind });
         }
-    }
-
-    /// Puts the rules of a line after the others.
-    fn put_rules(
-        &mut self,
-        alloc: Global,
-        family: Family,
-        assumed: &[u8],
-        reading: &Reading,
-        userdata: u32,
-        target: Target,
-    ) -> Result<(), AllocError>
-        ensures more { OnOk result (self.new
-            ≡ more_rules (rules_of family assumed.now reading.now userdata target) self.old) }
-        ensures name { self.new.name ≡ self.old.name }
-    {
-        let caught = boxes_of_rule(alloc, family, assumed, reading)?;
-        put_rules(alloc, family, &caught, userdata, target, &mut self.rules)
     }
 
     /// The rules alone, as a chain.

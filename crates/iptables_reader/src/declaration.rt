@@ -1,63 +1,53 @@
-//! Lines that declare chains.
+//! Lines that declare chains, and their policies.
 
-ghost use Rattle.std.specs.Prelude.{◌≡◌, MatchResult, Ok, Err};
+ghost use Rattle.std.specs.Prelude.{◌≡◌, MatchResult, Ok};
 ghost use Rattle.text_scan.specs.Parts.{words_of};
 ghost use Rattle.iptables_reader.specs.Options.{is_target};
-ghost use Rattle.iptables_reader.specs.Table.{answer_of, declaration_of, is_base, policy_named};
-ghost use Rattle.iptables_reader.specs.Table.{policy_of, verdict_answer};
+ghost use Rattle.iptables_reader.specs.Stops.{Refuses};
+ghost use Rattle.iptables_reader.specs.Table as table;
 
-use crate::fault::LineKind;
-use crate::named_chains::NamedChains;
+use crate::answers::{Asked, answer_of};
+use crate::fault::{LineKind, Stop};
 use crate::options::{Verdict, verdict_named};
-use crate::table::{Answers, Asked};
 use crate::tables::{owner_in, targets};
 use crate::values::is_counters;
 use text_scan::next_word;
 
-/// The name of the chain that a text declares, and the answer of its policy.
-pub(crate) fn declaration<'a>(
-    asked: Asked,
-    number: u32,
-    chains: &NamedChains,
-    text: &'a [u8],
-) -> Result<(&'a [u8], Option<u32>), LineKind>
+/// The name of the chain that a text declares, and the word of its policy.
+pub(crate) fn declaration(text: &[u8]) -> Result<(&[u8], &[u8]), Stop>
     ensures { MatchResult result
-        (λ said. declaration_of asked number chains.now (words_of text.now)
-        ≡ Ok (record { name = said.0.now; policy = said.1 }))
-        (λ kind. declaration_of asked number chains.now (words_of text.now) ≡ Err kind) }
+        (λ said. table.declaration_of (words_of text.now)
+        ≡ Ok (record { name = said.0.now; word = said.1.now }))
+        (Refuses (table.declaration_of (words_of text.now))) }
 {
-    let Some((name, rest)) = next_word(text) else {
-        return Err(LineKind::BadChain);
-    };
-    let Some((word, rest)) = next_word(rest) else {
-        return Err(LineKind::BadChain);
-    };
-    let Some((counters, rest)) = next_word(rest) else {
-        return Err(LineKind::BadChain);
-    };
+    let (name, rest) = next_word(text).ok_or(Stop::Faulty(LineKind::BadChain))?;
+    let (word, rest) = next_word(rest).ok_or(Stop::Faulty(LineKind::BadChain))?;
+    let (counters, rest) = next_word(rest).ok_or(Stop::Faulty(LineKind::BadChain))?;
     if next_word(rest).is_some() || !is_counters(counters) || is_target(name) {
-        return Err(LineKind::BadChain);
+        return Err(Stop::Faulty(LineKind::BadChain));
     }
-    if chains.place_of(name, false).is_some() {
-        return Err(LineKind::ChainTwice);
-    }
-    Ok((name, policy(asked, number, name, word)?))
+    Ok((name, word))
 }
 
 /// The answer of a chain's policy, which chains that rules lead to don't have.
-fn policy(asked: Asked, number: u32, name: &[u8], word: &[u8]) -> Result<Option<u32>, LineKind>
-    ensures { result ≡ policy_of asked number name.now word.now }
+pub(crate) fn policy(
+    asked: Asked,
+    number: u32,
+    name: &[u8],
+    word: &[u8],
+) -> Result<Option<u32>, Stop>
+    ensures { MatchResult result
+        (λ policy. table.policy_of asked number name.now word.now ≡ Ok policy)
+        (Refuses (table.policy_of asked number name.now word.now)) }
 {
     if is_base(name) {
-        return match policy_named(word) {
-            Some(verdict) => Ok(Some(answer_of(asked.answers, number, verdict))),
-            None => Err(LineKind::BadPolicy),
-        };
+        let verdict = policy_named(word).ok_or(Stop::Faulty(LineKind::BadPolicy))?;
+        return Ok(Some(answer_of(asked.answers, number, verdict)));
     }
-    if word == b"-".as_slice() {
-        return Ok(None);
+    if word != b"-".as_slice() {
+        return Err(Stop::Faulty(LineKind::BadPolicy));
     }
-    Err(LineKind::BadPolicy)
+    Ok(None)
 }
 
 /// Whether a word names a target, as no chain is named.
@@ -69,14 +59,14 @@ fn is_target(word: &[u8]) -> bool
 
 /// Whether packets come to the chain of a name by themselves.
 fn is_base(name: &[u8]) -> bool
-    ensures { result ≡ is_base name.now }
+    ensures { result ≡ table.is_base name.now }
 {
     name == b"INPUT".as_slice() || name == b"FORWARD".as_slice() || name == b"OUTPUT".as_slice()
 }
 
 /// The verdict of a policy.
 fn policy_named(word: &[u8]) -> Option<Verdict>
-    ensures { result ≡ policy_named word.now }
+    ensures { result ≡ table.policy_named word.now }
 {
     if word == b"ACCEPT".as_slice() {
         Some(Verdict::Accept)
@@ -84,27 +74,5 @@ fn policy_named(word: &[u8]) -> Option<Verdict>
         Some(Verdict::Drop)
     } else {
         None
-    }
-}
-
-/// The answer of a verdict on a line.
-pub(crate) fn answer_of(answers: Answers, number: u32, verdict: Verdict) -> u32
-    ensures { result ≡ answer_of answers number verdict }
-{
-    match answers {
-        Answers::Line => number,
-        Answers::Verdict => verdict_answer(verdict),
-    }
-}
-
-/// The number of a verdict.
-fn verdict_answer(verdict: Verdict) -> u32
-    ensures { result ≡ verdict_answer verdict }
-{
-    match verdict {
-        Verdict::Accept => 1,
-        Verdict::Drop => 2,
-        Verdict::Reject => 3,
-        Verdict::Return => 0,
     }
 }

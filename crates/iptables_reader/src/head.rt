@@ -1,35 +1,32 @@
 //! The beginning of a rule's line: counters, `-A`, and the name of its chain.
 
-ghost use Rattle.std.specs.Prelude.{◌≡◌, ◌<◌, length, IfOk, MatchResult, Ok, Err};
+ghost use Rattle.std.specs.Prelude.{◌≡◌, ◌<◌, length, IfOk, MatchResult, Ok};
 ghost use Rattle.text_scan.specs.Parts.{words_of};
 ghost use Rattle.iptables_reader.specs.Reading.{after_counters, head_of};
+ghost use Rattle.iptables_reader.specs.Stops.{Refuses};
 
-use crate::fault::LineKind;
+use crate::fault::{LineKind, Stop};
 use crate::named_chains::NamedChains;
 use crate::values::is_counters;
 use text_scan::next_word;
 
 /// The place of a rule's chain, and the text after its name.
-pub(crate) fn head<'a>(chains: &NamedChains, line: &'a [u8]) -> Result<(usize, &'a [u8]), LineKind>
+pub(crate) fn head<'a>(chains: &NamedChains, line: &'a [u8]) -> Result<(usize, &'a [u8]), Stop>
     ensures head { MatchResult result
         (λ read. head_of chains.now (words_of line.now)
         ≡ Ok (record { chain = read.0; words = words_of read.1.now }))
-        (λ kind. head_of chains.now (words_of line.now) ≡ Err kind) }
+        (Refuses (head_of chains.now (words_of line.now))) }
     ensures within { IfOk result (λ read. read.0 < length chains.now) }
 {
-    let Some((word, rest)) = next_word(after_counters(line)) else {
-        return Err(LineKind::BadStart);
-    };
+    let (word, rest) = next_word(after_counters(line)).ok_or(Stop::Faulty(LineKind::BadStart))?;
     if word != b"-A".as_slice() {
-        return Err(LineKind::BadStart);
+        return Err(Stop::Faulty(LineKind::BadStart));
     }
-    let Some((name, rest)) = next_word(rest) else {
-        return Err(LineKind::MissingWord);
-    };
-    match chains.place_of(name, false) {
-        Some(place) => Ok((place, rest)),
-        None => Err(LineKind::NoChain),
-    }
+    let (name, rest) = next_word(rest).ok_or(Stop::Faulty(LineKind::MissingWord))?;
+    let place = chains
+        .place_of(name, false)
+        .ok_or(Stop::Faulty(LineKind::NoChain))?;
+    Ok((place, rest))
 }
 
 /// The text after the counters that a rule may begin with.

@@ -1,26 +1,20 @@
 //! bytes of iptables-save → the chains of its table `filter`, or the first faulty line
 //!
-//! It reads what iptables-save and ip6tables-save print. A rule is read word by word: an option,
+//! It reads what iptables-save and ip6tables-save print. A rule is read option by option: a name,
 //! and the words that belong to it. Whatever isn't known here is refused, so that no word of a list
 //! that is accepted is passed over.
 //!
-//! Other readers of lists stand on its boxes of packets, its spans of addresses, and what is
-//! assumed of packets.
-//!
 //! | module | what it holds |
 //! |---|---|
-//! | `values` | numbers, ports and addresses, as a word spells them |
 //! | `tables` | names in tables: protocols, states, matches and targets with their options |
-//! | `options` | the words that name options, matches and targets |
-//! | `ports` | a list of ports |
-//! | `quotes` | quotes around words |
-//! | `assumed` | what is assumed of packets beside their bytes |
-//! | `parts` | what a rule says so far |
-//! | `option_addresses`, `option_values` | the values of options, which a rule takes up |
-//! | `reading` | a rule, word by word |
+//! | `values` | protocols, states, ports and counters, as a word spells them |
+//! | `options` | the words that name options, matches and verdicts |
+//! | `quotes`, `words` | the words of a line, and those between quotes |
+//! | `setting` | where a rule is read |
+//! | `reading` | a rule, option by option |
+//! | `option_values` | the values of options, which a rule takes up |
 //! | `head` | the beginning of a rule's line |
-//! | `address_spans` | sets of addresses as spans |
-//! | `packets`, `caught` | what a rule catches, as boxes of packets |
+//! | `answers` | what rules answer and do |
 //! | `chain` | a chain: its name, its policy and its rules |
 //! | `places`, `named_chains` | chains, found by their names |
 //! | `declaration` | lines that declare chains |
@@ -33,39 +27,26 @@
 //! iptables-restore(8).
 #![tactic(auto)]
 
-mod address_spans;
-mod assumed;
-mod caught;
+mod answers;
 mod chain;
 mod declaration;
 mod fault;
 mod head;
 pub mod laws;
 mod named_chains;
-mod option_addresses;
 mod option_values;
 mod options;
-mod packets;
-mod parts;
 mod places;
-mod ports;
 mod quotes;
 mod reached;
 mod reading;
+mod setting;
 mod table;
 mod tables;
 mod values;
+mod words;
 
-pub use address_spans::put_set;
-pub use assumed::{
-    assumed_state, is_assumption, is_interface, knows_local, meets_interface, state_named, value_in,
-};
-pub use caught::Caught;
+pub use answers::{Answers, Asked};
 pub use chain::SavedChain;
 pub use fault::{IptablesFault, LineFault, LineKind};
-pub use packets::{End, Field, Packets, all_packets, put_ends, put_rules, put_spans};
-pub use parts::AddressSet;
-pub use table::{Answers, Asked, MAX_LIST, chain_place, chains_alone, read_chains};
-pub use values::{
-    AddressRange, AddressSpans, address, address_alone, filled_range, most_bits, spans_of_address,
-};
+pub use table::{MAX_LIST, chain_place, chains_alone, read_chains};

@@ -1,9 +1,9 @@
 //! Chains in the order in which they are declared, found by their names.
 
+use crate::answers::Asked;
 use crate::chain::{SavedChain, place_from};
-use crate::parts::Reading;
 use crate::places::Places;
-use crate::table::Asked;
+use crate::reading::Reading;
 use std::alloc::{AllocError, Global};
 use std::marker::Model;
 
@@ -96,16 +96,15 @@ impl NamedChains {
         &mut self,
         alloc: Global,
         asked: Asked,
-        assumed: &[u8],
         number: u32,
         place: usize,
         reading: &Reading,
     ) -> Result<(), AllocError>
         requires { place < length self.old }
         ensures { OnOk result (self.new ≡ slice_set self.old place
-            (with_said asked assumed.now number reading.now reading.now.act
+            (with_said asked number reading.now reading.now.act
             (slice_index_or self.old place no_chain))) }
     {
-        self.chains[place].add_line(alloc, asked, assumed, number, reading)
+        self.chains[place].add_line(alloc, asked, number, reading)
     }
 }

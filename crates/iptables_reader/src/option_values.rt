@@ -1,355 +1,402 @@
 //! The values of options, which a rule takes up.
 
-ghost use Rattle.std.specs.Prelude.{◌≡◌};
-ghost use Rattle.text_scan.specs.Parts.{parts_of};
+ghost use Rattle.std.specs.Prelude.{◌≡◌, ◌++◌, MatchResult, OnOk, Ok};
+ghost use Rattle.iptables_reader.specs.Stops.{Refuses};
 ghost use Rattle.iptables_reader.specs.OptionValues as values;
-ghost use Rattle.iptables_reader.specs.Ports.{comma};
 
-use crate::assumed::{
-    are_states, assumed_state, has_state, is_interface, meets_interface, value_in,
-};
-use crate::fault::LineKind;
-use crate::named_chains::NamedChains;
-use crate::options::{
-    Match, RuleOption, Side, Way, is_ip4_answer, is_ip6_answer, match_named, verdict_named,
-};
-use crate::parts::{Act, ListPart, Next, Reading, Rows, SpanPart};
-use crate::ports::Ports;
-use crate::tables::{matches, owner_in, targets};
-use crate::values::{MAX_PORT, has_ports, port_span, protocol, protocol_span};
+use crate::fault::{LineKind, Stop};
+use crate::options::{ANY_OPTIONS, Match, RuleOption, Verdict, match_named, verdict_named};
+use crate::reading::{Act, Reading, Rows, Value};
+use crate::setting::Setting;
+use crate::tables::{answers, matches, owner_in, targets};
+use crate::values::{are_states, has_state, port_spans, protocol};
 use field_defs::Family;
+use list_chains::Span;
+use list_packets::{
+    AddressSet, AddressSpans, End, Field, MAX_PORT, Packets, address_range, all_packets,
+    assumed_state, has_ports, is_interface, knows_local, meets_interface, network, port_span,
+    protocol_span, put_ends, put_set, put_spans, value_in, with_span,
+};
+use std::alloc::AllocError;
 
 /// The number of the states of connections whose addresses are changed.
 const CHANGED: u64 = 6;
 
 impl Reading {
     ghost use Rattle.std.specs.Prelude.{◌≡◌};
+    ghost use Rattle.iptables_reader.specs.Stops.{Makes};
     ghost use Rattle.iptables_reader.specs.OptionValues as values;
 
-    /// The value of an option.
-    pub(crate) fn with_value(
-        self,
-        family: Family,
-        assumed: &[u8],
-        chains: &NamedChains,
+    /// The value of an option, perhaps after `!`.
+    pub(crate) fn take_value(
+        &mut self,
+        setting: &Setting,
         option: RuleOption,
-        word: &[u8],
-    ) -> Result<Reading, LineKind>
-        ensures { result ≡ values.with_value family assumed.now chains.now self option word.now }
+        value: Value,
+    ) -> Result<(), Stop>
+        ensures { Makes (values.with_value setting.now self.old option value.entry) self.new result }
     {
         match option {
-            RuleOption::Address(which) => self.with_address(family, assumed, which, word),
-            RuleOption::Protocol => self.with_protocol(word),
-            RuleOption::Match => self.with_match(family, word),
-            RuleOption::Interface(way) => self.with_interface(assumed, way, word),
-            RuleOption::SourcePorts => self.with_source_ports(word),
-            RuleOption::DestinationPorts => self.with_destination_ports(word),
-            RuleOption::Jump => self.with_jump(chains, word),
-            RuleOption::Go => self.with_go(chains, word),
-            RuleOption::Answer => self.with_answer(family, word),
-            RuleOption::List(side) => self.with_list(side, word),
-            RuleOption::States => self.with_states(assumed, word),
-            RuleOption::Message => Ok(self.with_message(word)),
-            // The words of a comment come in its place.
-            RuleOption::Comment => Err(LineKind::UnknownOption),
-        }
-    }
-
-    /// The protocol, which is known if it isn't negated.
-    fn with_protocol(self, word: &[u8]) -> Result<Reading, LineKind>
-        ensures { result ≡ values.with_protocol self word.now }
-    {
-        match wanted_protocol(self.negated, word) {
-            Some(number) => Ok(Reading {
-                protocol: Some(SpanPart {
-                    negated: self.negated,
-                    span: protocol_span(number),
-                }),
-                known: known_number(self.negated, number),
-                ..self.settled()
-            }),
-            None => Err(LineKind::BadProtocol),
-        }
-    }
-
-    /// Ports of the source.
-    fn with_source_ports(self, word: &[u8]) -> Result<Reading, LineKind>
-        ensures { result ≡ values.with_source_ports self word.now }
-    {
-        match port_part(self.negated, word) {
-            Some(part) => Ok(Reading {
-                source_ports: Some(part),
-                ..self.settled()
-            }),
-            None => Err(LineKind::BadPorts),
-        }
-    }
-
-    /// Ports of the destination.
-    fn with_destination_ports(self, word: &[u8]) -> Result<Reading, LineKind>
-        ensures { result ≡ values.with_destination_ports self word.now }
-    {
-        match port_part(self.negated, word) {
-            Some(part) => Ok(Reading {
-                destination_ports: Some(part),
-                ..self.settled()
-            }),
-            None => Err(LineKind::BadPorts),
-        }
-    }
-
-    /// A list of ports.
-    fn with_list(self, side: Side, word: &[u8]) -> Result<Reading, LineKind>
-        ensures { result ≡ values.with_list self side word.now }
-    {
-        match Ports::read(word) {
-            Some(ports) => {
-                let negated = self.negated;
-                Ok(Reading {
-                    list: Some(ListPart {
-                        negated,
-                        side,
-                        ports,
-                    }),
-                    ..self.settled()
-                })
+            RuleOption::Network(end) => self.take_network(setting, end, value),
+            RuleOption::Range(end) => self.take_range(setting, end, value),
+            RuleOption::Type(end) => self.take_type(setting, end, value),
+            RuleOption::Ports(end) => self.take_ports(setting, end, value),
+            RuleOption::List(end) => self.take_list(setting, end, value),
+            RuleOption::Interface(end) => self.take_interface(setting, end, value),
+            RuleOption::Protocol => self.take_protocol(setting, value),
+            RuleOption::States(changed) => self.take_states(setting, changed, value),
+            RuleOption::Message => {
+                let met = (value.word == b"any".as_slice()).then_some(true);
+                self.take_met(value.negated, met, LineKind::CantSay);
+                Ok(())
             }
-            None => Err(LineKind::BadPorts),
-        }
-    }
-
-    /// A match, by its name.
-    fn with_match(self, family: Family, word: &[u8]) -> Result<Reading, LineKind>
-        ensures { result ≡ values.with_match family self word.now }
-    {
-        let place = owner_in(matches(), word);
-        match match_named(word) {
-            Some(kind) => self
-                .with_rows(match_rows(place))
-                .with_kind(kind)
-                .with_named_match(family, kind),
-            None => self.with_other_match(place),
-        }
-    }
-
-    /// A match that no rule file says.
-    fn with_other_match(self, place: Option<usize>) -> Result<Reading, LineKind>
-        ensures { result ≡ values.with_other_match self place }
-    {
-        match place {
-            Some(place) => Ok(Reading {
-                kind: None,
-                rows: Rows::Match(place),
-                ..self.with_cause(LineKind::CantSay).settled()
-            }),
-            None => Err(LineKind::BadMatch),
-        }
-    }
-
-    /// The same with a match that was named last.
-    fn with_kind(self, kind: Match) -> Reading
-        ensures { result ≡ values.with_kind kind self }
-    {
-        Reading {
-            kind: Some(kind),
-            ..self
-        }
-    }
-
-    /// What a match needs: a protocol that is known, and no other match of it.
-    fn with_named_match(self, family: Family, kind: Match) -> Result<Reading, LineKind>
-        ensures { result ≡ values.with_named_match family self kind }
-    {
-        match kind {
-            Match::Protocol(number) => self.with_protocol_match(number, Next::Name),
-            Match::Messages(number) => {
-                if number != messages_of(family) {
-                    return Err(LineKind::BadMatch);
-                }
-                self.with_protocol_match(number, Next::OwnName)
+            RuleOption::Match => self.take_match(setting, value.word),
+            RuleOption::Jump => self.take_jump(setting, value.word),
+            RuleOption::Go => {
+                let place = led_place(setting, value.word)?;
+                self.put_act(Act::Go(place), Rows::Nothing);
+                Ok(())
             }
-            Match::Ports => {
-                if !has_ports(self.known) {
-                    return Err(LineKind::NeedsProtocol);
-                }
-                Ok(self.before_word(Next::OwnName))
-            }
-            Match::Comment | Match::Range | Match::Connection | Match::State | Match::Type => {
-                Ok(self.before_word(Next::OwnName))
-            }
+            RuleOption::Answer => self.take_answer(setting, value.word),
         }
     }
 
-    /// The match of a protocol.
-    fn with_protocol_match(self, number: u64, next: Next) -> Result<Reading, LineKind>
-        ensures { result ≡ values.with_protocol_match self number next }
+    /// Packets that come from addresses, or go to them.
+    fn take_set(
+        &mut self,
+        setting: &Setting,
+        negated: bool,
+        end: End,
+        set: AddressSet,
+    ) -> Result<(), Stop>
+        ensures { Makes (values.with_set setting.now negated self.old end set) self.new result }
     {
-        if self.known == number && !self.matched {
-            return Ok(Reading {
-                matched: true,
-                next,
-                ..self
-            });
-        }
-        Err(LineKind::BadMatch)
+        let mut spans = Vec::new(setting.alloc);
+        put_set(&mut spans, setting.family, setting.assumed, set)?;
+        let mut boxes = Vec::new(setting.alloc);
+        put_ends(&mut boxes, all_packets(setting.family), end, &spans)?;
+        self.caught.take(setting.alloc, negated, &boxes)?;
+        Ok(())
     }
 
-    /// An interface, as it is assumed.
-    fn with_interface(self, assumed: &[u8], way: Way, word: &[u8]) -> Result<Reading, LineKind>
-        ensures { result ≡ values.with_interface assumed.now self way word.now }
+    /// A network. After `!` it doesn't have all addresses.
+    fn take_network(&mut self, setting: &Setting, end: End, value: Value) -> Result<(), Stop>
+        ensures { Makes (values.with_network setting.now self.old end value.entry) self.new result }
     {
-        if !is_interface(b'+', word) {
-            return Err(LineKind::BadInterface);
+        let spans = network(setting.family, value.word).ok_or(Stop::Faulty(LineKind::BadAddress))?;
+        if value.negated && is_whole(setting.family, spans) {
+            return Err(Stop::Faulty(LineKind::BadAddress));
         }
-        Ok(
-            self.with_met(interface_met(assumed, way, word), LineKind::NeedsInterface)
-                .with_way(way),
-        )
+        self.take_set(setting, value.negated, end, AddressSet::Network(spans))
     }
 
-    /// An option on an interface was read.
-    fn with_way(self, way: Way) -> Reading
-        ensures { result ≡ values.with_way way self }
+    /// Addresses from one to another.
+    fn take_range(&mut self, setting: &Setting, end: End, value: Value) -> Result<(), Stop>
+        ensures { Makes (values.with_range setting.now self.old end value.entry) self.new result }
     {
-        match way {
-            Way::In => Reading {
-                incoming: true,
-                ..self.settled()
-            },
-            Way::Out => Reading {
-                outgoing: true,
-                ..self.settled()
-            },
+        let range = address_range(setting.family, value.word).ok_or(Stop::Faulty(
+            LineKind::BadAddress,
+        ))?;
+        self.take_set(setting, value.negated, end, AddressSet::Range(range))
+    }
+
+    /// Addresses of a type.
+    fn take_type(&mut self, setting: &Setting, end: End, value: Value) -> Result<(), Stop>
+        ensures { Makes (values.with_type setting.now self.old end value.entry) self.new result }
+    {
+        let set = set_of_type(setting.family, value.word);
+        if let Some(kind) = set_cause(setting.assumed, set) {
+            self.put_cause(kind);
         }
+        self.take_set(setting, value.negated, end, set)
+    }
+
+    /// Ports, of which a protocol that has some is known. After `!` they aren't all.
+    fn take_ports(&mut self, setting: &Setting, end: End, value: Value) -> Result<(), Stop>
+        ensures { Makes (values.with_ports setting.now self.old end value.entry) self.new result }
+    {
+        if !has_ports(self.known) {
+            return Err(Stop::Faulty(LineKind::NeedsProtocol));
+        }
+        let span = port_span(value.word).ok_or(Stop::Faulty(LineKind::BadPorts))?;
+        if value.negated && are_all(span) {
+            return Err(Stop::Faulty(LineKind::BadPorts));
+        }
+        let boxes = [with_span(all_packets(setting.family), ports_at(end), span)];
+        self.caught.take(setting.alloc, value.negated, &boxes)?;
+        Ok(())
+    }
+
+    /// A list of ports of an end, or of any of the two.
+    fn take_list(&mut self, setting: &Setting, end: Option<End>, value: Value) -> Result<(), Stop>
+        ensures { Makes (values.with_list setting.now self.old end value.entry) self.new result }
+    {
+        let spans = port_spans(setting.alloc, value.word)?;
+        let mut boxes = Vec::new(setting.alloc);
+        put_listed(&mut boxes, all_packets(setting.family), end, &spans)?;
+        self.caught.take(setting.alloc, value.negated, &boxes)?;
+        Ok(())
+    }
+
+    /// The protocol, which is known if it isn't negated. After `!` it isn't that of all.
+    fn take_protocol(&mut self, setting: &Setting, value: Value) -> Result<(), Stop>
+        ensures { Makes (values.with_protocol setting.now self.old value.entry) self.new result }
+    {
+        let number = protocol(value.word).ok_or(Stop::Faulty(LineKind::BadProtocol))?;
+        if value.negated && number == 0 {
+            return Err(Stop::Faulty(LineKind::BadProtocol));
+        }
+        self.known = if value.negated { 0 } else { number };
+        let all = all_packets(setting.family);
+        let boxes = [with_span(all, Field::Protocol, protocol_span(number))];
+        self.caught.take(setting.alloc, value.negated, &boxes)?;
+        Ok(())
     }
 
     /// What all packets have or none, or a cause where that isn't assumed.
-    fn with_met(self, met: Option<bool>, kind: LineKind) -> Reading
-        ensures { result ≡ values.with_met met kind self }
+    fn take_met(&mut self, negated: bool, met: Option<bool>, kind: LineKind)
+        ensures { self.new ≡ values.with_met negated met kind self.old }
     {
         match met {
-            Some(met) => {
-                let never = self.never || met == self.negated;
-                Reading { never, ..self }
-            }
-            None => self.with_cause(kind),
+            Some(met) => self.never = self.never || met == negated,
+            None => self.put_cause(kind),
         }
+    }
+
+    /// An interface, as it is assumed. Packets of OUTPUT come by none, and those of INPUT leave by
+    /// none.
+    fn take_interface(&mut self, setting: &Setting, end: End, value: Value) -> Result<(), Stop>
+        ensures { Makes (values.with_interface setting.now self.old end value.entry) self.new result }
+    {
+        if lacks_interface(setting.chain, end) || !is_interface(b'+', value.word) {
+            return Err(Stop::Faulty(LineKind::BadInterface));
+        }
+        let met = interface_met(setting.assumed, end, value.word);
+        self.take_met(value.negated, met, LineKind::NeedsInterface);
+        Ok(())
     }
 
     /// States of a connection, as it is assumed.
-    fn with_states(self, assumed: &[u8], word: &[u8]) -> Result<Reading, LineKind>
-        ensures { result ≡ values.with_states assumed.now self word.now }
+    fn take_states(&mut self, setting: &Setting, changed: bool, value: Value) -> Result<(), Stop>
+        ensures { Makes (values.with_states setting.now self.old changed value.entry) self.new result }
     {
-        if !are_known(self.kind, word) {
-            return Err(LineKind::BadState);
+        if !are_known(changed, value.word) {
+            return Err(Stop::Faulty(LineKind::BadState));
         }
-        let reading = Reading {
-            stated: true,
-            ..self
-        };
-        if has_state(word, CHANGED) {
-            return Ok(reading.with_cause(LineKind::CantSay).settled());
+        if has_state(value.word, CHANGED) {
+            self.put_cause(LineKind::CantSay);
+        } else {
+            self.take_met(
+                value.negated,
+                state_met(setting.assumed, value.word),
+                LineKind::NeedsState,
+            );
         }
-        let met = state_met(assumed, word);
-        Ok(reading.with_met(met, LineKind::NeedsState).settled())
+        Ok(())
     }
 
-    /// A type of messages, which is any, or no rule file says it.
-    fn with_message(self, word: &[u8]) -> Reading
-        ensures { result ≡ values.with_message self word.now }
+    /// A match, by its name. Its options may come again.
+    fn take_match(&mut self, setting: &Setting, word: &[u8]) -> Result<(), Stop>
+        ensures { Makes (values.with_match setting.now self.old word.now) self.new result }
     {
-        let met = (word == b"any".as_slice()).then_some(true);
-        self.with_met(met, LineKind::CantSay).settled()
+        let place = owner_in(matches(), word).ok_or(Stop::Faulty(LineKind::BadMatch))?;
+        self.rows = Rows::Match(place);
+        self.given &= ANY_OPTIONS;
+        self.kind = match_named(word);
+        match self.kind {
+            Some(kind) => self.need(setting.family, kind),
+            None => {
+                self.put_cause(LineKind::CantSay);
+                Ok(())
+            }
+        }
+    }
+
+    /// What a match needs before it; its option comes right after it, unless it may stand alone.
+    fn need(&mut self, family: Family, kind: Match) -> Result<(), Stop>
+        ensures { Makes (values.with_needs family self.old kind) self.new result }
+    {
+        match kind {
+            Match::Protocol(number) => self.need_protocol(number),
+            Match::Messages(number) => {
+                if number != messages_of(family) {
+                    return Err(Stop::Faulty(LineKind::BadMatch));
+                }
+                self.own = true;
+                self.need_protocol(number)
+            }
+            Match::Ports => {
+                if !has_ports(self.known) {
+                    return Err(Stop::Faulty(LineKind::NeedsProtocol));
+                }
+                self.own = true;
+                Ok(())
+            }
+            Match::Comment | Match::Range | Match::Connection | Match::State | Match::Type => {
+                self.own = true;
+                Ok(())
+            }
+        }
+    }
+
+    /// The match of a protocol: that which is known, and once.
+    fn need_protocol(&mut self, number: u64) -> Result<(), Stop>
+        ensures { Makes (values.with_matched number self.old) self.new result }
+    {
+        if self.known != number || self.matched {
+            return Err(Stop::Faulty(LineKind::BadMatch));
+        }
+        self.matched = true;
+        Ok(())
     }
 
     /// A target: a verdict, one that passes packets on, or a chain that rules lead to.
-    fn with_jump(self, chains: &NamedChains, word: &[u8]) -> Result<Reading, LineKind>
-        ensures { result ≡ values.with_jump chains.now self word.now }
+    fn take_jump(&mut self, setting: &Setting, word: &[u8]) -> Result<(), Stop>
+        ensures { Makes (values.with_jump setting.now self.old word.now) self.new result }
     {
         if let Some(verdict) = verdict_named(word) {
-            return Ok(self.with_act(Act::Decide(verdict), Rows::Nothing));
+            self.put_act(Act::Decide(verdict), Rows::Nothing);
+            return Ok(());
         }
         if let Some(place) = owner_in(targets(), word) {
-            return Ok(self.with_act(Act::Pass, Rows::Target(place)));
+            self.put_act(Act::Pass, Rows::Target(place));
+            return Ok(());
         }
-        match chains.place_of(word, true) {
-            Some(place) => Ok(self.with_act(Act::Jump(place), Rows::Nothing)),
-            None => Err(LineKind::BadTarget),
-        }
-    }
-
-    /// A chain from which packets don't come back.
-    fn with_go(self, chains: &NamedChains, word: &[u8]) -> Result<Reading, LineKind>
-        ensures { result ≡ values.with_go chains.now self word.now }
-    {
-        match chains.place_of(word, true) {
-            Some(place) => Ok(self.with_act(Act::Go(place), Rows::Nothing)),
-            None => Err(LineKind::BadTarget),
-        }
+        let place = led_place(setting, word)?;
+        self.put_act(Act::Jump(place), Rows::Nothing);
+        Ok(())
     }
 
     /// What the rule does, and the options of its target.
-    fn with_act(self, act: Act, rows: Rows) -> Reading
-        ensures { result ≡ values.with_act self act rows }
+    fn put_act(&mut self, act: Act, rows: Rows)
+        ensures { self.new ≡ values.with_act act rows self.old }
     {
-        Reading {
-            act: Some(act),
-            rows,
-            kind: None,
-            ..self.settled()
-        }
+        self.act = Some(act);
+        self.rows = rows;
+        self.kind = None;
     }
 
     /// The answer of REJECT, which changes no verdict.
-    fn with_answer(self, family: Family, word: &[u8]) -> Result<Reading, LineKind>
-        ensures { result ≡ values.with_answer family self word.now }
+    fn take_answer(&mut self, setting: &Setting, word: &[u8]) -> Result<(), Stop>
+        ensures { Makes (values.with_answer setting.now.family self.old word.now) self.new result }
     {
-        if has_answer(family, self.known, word) {
-            return Ok(Reading {
-                answered: true,
-                ..self.settled()
-            });
+        if !rejects(self.act) {
+            return Err(Stop::Faulty(LineKind::NeedsProtocol));
         }
-        Err(LineKind::BadAnswer)
+        if !has_answer(setting.family, self.known, word) {
+            return Err(Stop::Faulty(LineKind::BadAnswer));
+        }
+        Ok(())
     }
 }
 
-/// The number of a protocol. After `!` it isn't that of all.
-fn wanted_protocol(negated: bool, word: &[u8]) -> Option<u64>
-    ensures { result ≡ values.wanted_protocol negated word.now }
+/// Whether a network has all addresses of the family.
+fn is_whole(family: Family, spans: AddressSpans) -> bool
+    ensures { result ≡ values.is_whole family spans }
 {
-    let number = protocol(word)?;
-    if negated && number == 0 {
-        return None;
+    match family {
+        Family::Ip4 => spans.low.low == 0 && spans.low.high == 0xFFFF_FFFF,
+        Family::Ip6 => spans.high.low == 0 && spans.high.high == u64::MAX,
     }
-    Some(number)
 }
 
-/// Ports that are wanted, or left out. After `!` they aren't all.
-fn port_part(negated: bool, word: &[u8]) -> Option<SpanPart>
-    ensures { result ≡ values.port_part negated word.now }
+/// The addresses of a type.
+fn set_of_type(family: Family, word: &[u8]) -> AddressSet
+    ensures { result ≡ values.set_of_type family word.now }
 {
-    let span = port_span(word)?;
-    if negated && span.low == 0 && span.high == MAX_PORT {
-        return None;
+    if word == b"LOCAL".as_slice() {
+        return AddressSet::Local;
     }
-    Some(SpanPart { negated, span })
+    match family {
+        Family::Ip4 if word == b"MULTICAST".as_slice() => AddressSet::Multicast,
+        Family::Ip4 | Family::Ip6 => AddressSet::Unsaid,
+    }
 }
 
-/// The number of a protocol that packets have to have.
-fn known_number(negated: bool, number: u64) -> u64
-    ensures { result ≡ values.known_number negated number }
+/// Why no rule file says which addresses are meant, if none does.
+fn set_cause(assumed: &[u8], set: AddressSet) -> Option<LineKind>
+    ensures { result ≡ values.set_cause assumed.now set }
 {
-    if negated { 0 } else { number }
+    match set {
+        AddressSet::Network(_) | AddressSet::Range(_) | AddressSet::Multicast => None,
+        AddressSet::Local => (!knows_local(assumed)).then_some(LineKind::NeedsLocal),
+        AddressSet::Unsaid => Some(LineKind::CantSay),
+    }
 }
 
-/// The options of a match, where the table has some.
-fn match_rows(place: Option<usize>) -> Rows
-    ensures { result ≡ values.match_rows place }
+/// Whether a span has all ports.
+fn are_all(span: Span) -> bool
+    ensures { result ≡ values.are_all span }
 {
-    match place {
-        Some(place) => Rows::Match(place),
-        None => Rows::Nothing,
+    span.low == 0 && span.high == MAX_PORT
+}
+
+/// The field of the ports of an end.
+fn ports_at(end: End) -> Field
+    ensures { result ≡ values.ports_at end }
+{
+    match end {
+        End::Source => Field::SourcePorts,
+        End::Destination => Field::DestinationPorts,
+    }
+}
+
+/// Puts the packets that have a port of a list at an end, or at any of the two.
+fn put_listed(
+    into: &mut Vec<Packets>,
+    all: Packets,
+    end: Option<End>,
+    ports: &[Span],
+) -> Result<(), AllocError>
+    ensures { OnOk result (into.new.items ≡ into.old.items ++ values.listed all end ports.now) }
+{
+    match end {
+        Some(end) => put_spans(into, all, ports_at(end), ports),
+        None => {
+            put_spans(into, all, Field::SourcePorts, ports)?;
+            put_spans(into, all, Field::DestinationPorts, ports)
+        }
+    }
+}
+
+/// Whether packets of a chain have no interface of an end.
+fn lacks_interface(chain: &[u8], end: End) -> bool
+    ensures { result ≡ values.lacks_interface chain.now end }
+{
+    match end {
+        End::Source => chain == b"OUTPUT".as_slice(),
+        End::Destination => chain == b"INPUT".as_slice(),
+    }
+}
+
+/// Whether packets have one of the interfaces, if it is known.
+fn interface_met(assumed: &[u8], end: End, word: &[u8]) -> Option<bool>
+    ensures { result ≡ values.interface_met assumed.now end word.now }
+{
+    let key = match end {
+        End::Source => b"in".as_slice(),
+        End::Destination => b"out".as_slice(),
+    };
+    match value_in(assumed, key) {
+        Some(name) => Some(meets_interface(b'+', word, name)),
+        None => None,
+    }
+}
+
+/// Whether a word lists states that the match knows.
+fn are_known(changed: bool, word: &[u8]) -> bool
+    ensures { result ≡ values.are_known changed word.now }
+{
+    are_states(word) && (changed || !has_state(word, CHANGED))
+}
+
+/// Whether connections have one of the states, if it is known.
+fn state_met(assumed: &[u8], word: &[u8]) -> Option<bool>
+    ensures { result ≡ values.state_met assumed.now word.now }
+{
+    match assumed_state(assumed) {
+        Some(number) => Some(has_state(word, number)),
+        None => None,
     }
 }
 
@@ -363,60 +410,31 @@ fn messages_of(family: Family) -> u64
     }
 }
 
-/// Whether packets have one of the interfaces, if it is known.
-fn interface_met(assumed: &[u8], way: Way, word: &[u8]) -> Option<bool>
-    ensures { result ≡ values.interface_met assumed.now way word.now }
+/// The place of a chain that rules may lead to, by its name.
+fn led_place(setting: &Setting, name: &[u8]) -> Result<usize, Stop>
+    ensures { MatchResult result
+        (λ place. values.led_place setting.now name.now ≡ Ok place)
+        (Refuses (values.led_place setting.now name.now)) }
 {
-    let given = match way {
-        Way::In => value_in(assumed, b"in"),
-        Way::Out => value_in(assumed, b"out"),
-    };
-    match given {
-        Some(name) => Some(meets_interface(b'+', word, name)),
-        None => None,
-    }
+    setting
+        .chains
+        .place_of(name, true)
+        .ok_or(Stop::Faulty(LineKind::BadTarget))
 }
 
-/// Whether a word lists states that a match knows: `state` doesn't know changed addresses.
-fn are_known(kind: Option<Match>, word: &[u8]) -> bool
-    ensures { result ≡ values.are_known kind (parts_of comma word.now) }
+/// Whether the rule rejects.
+fn rejects(act: Option<Act>) -> bool
+    ensures { result ≡ values.rejects act }
 {
-    are_states(word) && (knows_changed(kind) || !has_state(word, CHANGED))
+    matches!(act, Some(Act::Decide(Verdict::Reject)))
 }
 
-/// Whether a match knows states of connections whose addresses are changed.
-fn knows_changed(kind: Option<Match>) -> bool
-    ensures { result ≡ values.knows_changed kind }
-{
-    matches!(kind, Some(Match::Connection))
-}
-
-/// Whether connections have one of the states, if it is known.
-fn state_met(assumed: &[u8], word: &[u8]) -> Option<bool>
-    ensures { result ≡ values.state_met assumed.now word.now }
-{
-    match assumed_state(assumed) {
-        Some(number) => Some(has_state(word, number)),
-        None => None,
-    }
-}
-
-/// Whether REJECT of the family has the answer. A reset needs TCP.
+/// Whether REJECT of a family may give an answer, where a protocol is known. A reset needs TCP.
 fn has_answer(family: Family, known: u64, word: &[u8]) -> bool
     ensures { result ≡ values.has_answer family known word.now }
 {
     if word == b"tcp-reset".as_slice() {
         return known == 6;
     }
-    is_family_answer(family, word)
-}
-
-/// Whether REJECT of the family has the answer, besides a reset.
-fn is_family_answer(family: Family, word: &[u8]) -> bool
-    ensures { result ≡ values.is_family_answer family word.now }
-{
-    match family {
-        Family::Ip4 => is_ip4_answer(word),
-        Family::Ip6 => is_ip6_answer(word),
-    }
+    owner_in(answers(family), word).is_some()
 }

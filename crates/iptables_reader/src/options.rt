@@ -1,73 +1,67 @@
-//! The words that name something: options, matches, targets, and answers of REJECT.
+//! The words that name options, matches and verdicts.
 
 ghost use Rattle.std.specs.Prelude.{◌≡◌};
-ghost use Rattle.iptables_reader.specs.Options.{address_option, base_option, interface_option};
-ghost use Rattle.iptables_reader.specs.Options.{is_ip4_answer, is_ip6_answer, match_named};
-ghost use Rattle.iptables_reader.specs.Options.{may_be_negated, message_option, other_match_named, own_option};
-ghost use Rattle.iptables_reader.specs.Options.{port_option, range_option, side_named};
-ghost use Rattle.iptables_reader.specs.Options.{target_option, type_option, verdict_named};
+ghost use Rattle.iptables_reader.specs.Options as options;
+
+use list_packets::{End, meaning_of};
 
 /// An option that says something of packets, or what is done with them.
 #[derive(Clone, Copy)]
 pub(crate) enum RuleOption {
-    /// An option on addresses.
-    Address(AddressOption),
+    /// `-s` or `-d`
+    Network(End),
+    /// `--src-range` or `--dst-range`
+    Range(End),
+    /// `--src-type` or `--dst-type`
+    Type(End),
+    /// `--sport` or `--dport`
+    Ports(End),
+    /// `--sports` or `--dports`, and `--ports` for any of the two
+    List(Option<End>),
+    /// `-i` or `-o`: the interface by which packets come, or leave
+    Interface(End),
     /// `-p`
     Protocol,
+    /// `--ctstate` or `--state`, and whether it knows states whose addresses are changed
+    States(bool),
+    /// `--icmp-type`
+    Message,
     /// `-m`
     Match,
-    /// `-i` or `-o`
-    Interface(Way),
-    /// `--sport`
-    SourcePorts,
-    /// `--dport`
-    DestinationPorts,
     /// `-j`
     Jump,
     /// `-g`
     Go,
     /// `--reject-with`
     Answer,
-    /// An option of `multiport`.
-    List(Side),
-    /// `--comment`
-    Comment,
-    /// `--ctstate` or `--state`
-    States,
-    /// `--icmp-type`
-    Message,
 }
 
-/// An option on addresses.
-#[derive(Clone, Copy)]
-pub(crate) enum AddressOption {
-    /// `-s`
-    Source,
-    /// `-d`
-    Destination,
-    /// `--src-range`
-    SourceRange,
-    /// `--dst-range`
-    DestinationRange,
-    /// `--src-type`
-    SourceType,
-    /// `--dst-type`
-    DestinationType,
-}
+/// An option by its name: what its value says, or None where it decides nothing; the bit of what
+/// comes once, or 0; and whether `!` may stand before it.
+pub(crate) type Row = (Option<RuleOption>, u32, bool);
 
-/// Which interface of a packet is meant.
-#[derive(Clone, Copy)]
-pub(crate) enum Way {
-    /// That by which it comes.
-    In,
-    /// That by which it leaves.
-    Out,
-}
+/// The bits of the options of any rule. A match has two others, for each time that it is named.
+pub(crate) const ANY_OPTIONS: u32 = 511;
+
+/// The options of any rule.
+const ANY_ROWS: [Row; 11] = [
+    (Some(RuleOption::Network(End::Source)), 1, true),
+    (Some(RuleOption::Network(End::Destination)), 2, true),
+    (Some(RuleOption::Protocol), 4, true),
+    (Some(RuleOption::Interface(End::Source)), 8, true),
+    (Some(RuleOption::Interface(End::Destination)), 16, true),
+    (Some(RuleOption::Ports(End::Source)), 32, true),
+    (Some(RuleOption::Ports(End::Destination)), 64, true),
+    (Some(RuleOption::Match), 0, false),
+    (Some(RuleOption::Jump), 128, false),
+    (Some(RuleOption::Go), 128, false),
+    (Some(RuleOption::Answer), 256, false),
+];
 
 /// What `-m` names.
 #[derive(Clone, Copy)]
 pub(crate) enum Match {
-    /// The protocol of a number, whose options on ports come after it.
+    /// The protocol of a number, whose options on ports may stand without it.
     Protocol(u64),
     /// The protocol of a number, whose option on types of messages comes after it.
     Messages(u64),
@@ -85,14 +79,39 @@ pub(crate) enum Match {
     Type,
 }
 
-/// Which ports a list of them is about.
-#[derive(Clone, Copy)]
-pub(crate) enum Side {
-    Source,
-    Destination,
-    /// Any of the two.
-    Either,
-}
+/// The matches.
+const MATCHES: [Match; 11] = [
+    Match::Protocol(6),
+    Match::Protocol(17),
+    Match::Protocol(132),
+    Match::Messages(1),
+    Match::Messages(58),
+    Match::Comment,
+    Match::Ports,
+    Match::Range,
+    Match::Connection,
+    Match::State,
+    Match::Type,
+];
+
+/// The options of `multiport`.
+const PORTS_ROWS: [Row; 3] = [
+    (Some(RuleOption::List(Some(End::Source))), 512, true),
+    (Some(RuleOption::List(Some(End::Destination))), 512, true),
+    (Some(RuleOption::List(None)), 512, true),
+];
+
+/// Those of `iprange`.
+const RANGE_ROWS: [Row; 2] = [
+    (Some(RuleOption::Range(End::Source)), 512, true),
+    (Some(RuleOption::Range(End::Destination)), 1024, true),
+];
+
+/// Those of `addrtype`.
+const TYPE_ROWS: [Row; 2] = [
+    (Some(RuleOption::Type(End::Source)), 512, true),
+    (Some(RuleOption::Type(End::Destination)), 1024, true),
+];
 
 /// What a rule decides, or that it returns.
 #[derive(Clone, Copy)]
@@ -103,247 +122,76 @@ pub(crate) enum Verdict {
     Return,
 }
 
+/// The verdicts.
+const VERDICTS: [Verdict; 4] = [
+    Verdict::Accept,
+    Verdict::Drop,
+    Verdict::Reject,
+    Verdict::Return,
+];
+
 /// The option that a word names in any rule.
-pub(crate) fn base_option(word: &[u8]) -> Option<RuleOption>
-    ensures { result ≡ base_option word.now }
+pub(crate) fn any_option(word: &[u8]) -> Option<Row>
+    ensures { result ≡ options.any_option word.now }
 {
-    if let Some(option) = address_option(word) {
-        return Some(option);
-    }
-    if let Some(option) = interface_option(word) {
-        return Some(option);
-    }
-    if let Some(option) = port_option(word) {
-        return Some(option);
-    }
-    target_option(word)
-}
-
-/// The option on addresses and protocols that a word names.
-fn address_option(word: &[u8]) -> Option<RuleOption>
-    ensures { result ≡ address_option word.now }
-{
-    if word == b"-s".as_slice() {
-        Some(RuleOption::Address(AddressOption::Source))
-    } else if word == b"-d".as_slice() {
-        Some(RuleOption::Address(AddressOption::Destination))
-    } else if word == b"-p".as_slice() {
-        Some(RuleOption::Protocol)
-    } else {
-        None
-    }
-}
-
-/// The option on interfaces that a word names.
-fn interface_option(word: &[u8]) -> Option<RuleOption>
-    ensures { result ≡ interface_option word.now }
-{
-    if word == b"-i".as_slice() {
-        Some(RuleOption::Interface(Way::In))
-    } else if word == b"-o".as_slice() {
-        Some(RuleOption::Interface(Way::Out))
-    } else {
-        None
-    }
-}
-
-/// The option on matches and ports that a word names.
-fn port_option(word: &[u8]) -> Option<RuleOption>
-    ensures { result ≡ port_option word.now }
-{
-    if word == b"-m".as_slice() {
-        Some(RuleOption::Match)
-    } else if word == b"--sport".as_slice() {
-        Some(RuleOption::SourcePorts)
-    } else if word == b"--dport".as_slice() {
-        Some(RuleOption::DestinationPorts)
-    } else {
-        None
-    }
-}
-
-/// The option on targets that a word names.
-fn target_option(word: &[u8]) -> Option<RuleOption>
-    ensures { result ≡ target_option word.now }
-{
-    if word == b"-j".as_slice() {
-        Some(RuleOption::Jump)
-    } else if word == b"-g".as_slice() {
-        Some(RuleOption::Go)
-    } else if word == b"--reject-with".as_slice() {
-        Some(RuleOption::Answer)
-    } else {
-        None
-    }
+    let names = b"-s -d -p -i -o --sport --dport -m -j -g --reject-with";
+    meaning_of(names.as_slice(), &ANY_ROWS, word)
 }
 
 /// The match that a word names.
 pub(crate) fn match_named(word: &[u8]) -> Option<Match>
-    ensures { result ≡ match_named word.now }
+    ensures { result ≡ options.match_named word.now }
 {
-    if word == b"tcp".as_slice() {
-        Some(Match::Protocol(6))
-    } else if word == b"udp".as_slice() {
-        Some(Match::Protocol(17))
-    } else if word == b"comment".as_slice() {
-        Some(Match::Comment)
-    } else if word == b"multiport".as_slice() {
-        Some(Match::Ports)
-    } else if word == b"conntrack".as_slice() {
-        Some(Match::Connection)
-    } else {
-        other_match_named(word)
-    }
+    let names = b"tcp udp sctp icmp icmp6 comment multiport iprange conntrack state addrtype";
+    meaning_of(names.as_slice(), &MATCHES, word)
 }
 
-/// The match that a word names, of those that are rarer.
-fn other_match_named(word: &[u8]) -> Option<Match>
-    ensures { result ≡ other_match_named word.now }
-{
-    if word == b"state".as_slice() {
-        Some(Match::State)
-    } else if word == b"iprange".as_slice() {
-        Some(Match::Range)
-    } else if word == b"addrtype".as_slice() {
-        Some(Match::Type)
-    } else if word == b"sctp".as_slice() {
-        Some(Match::Protocol(132))
-    } else if word == b"icmp".as_slice() {
-        Some(Match::Messages(1))
-    } else if word == b"icmp6".as_slice() {
-        Some(Match::Messages(58))
-    } else {
-        None
-    }
-}
-
-/// The option of a match that a word names.
-pub(crate) fn own_option(kind: Match, word: &[u8]) -> Option<RuleOption>
-    ensures { result ≡ own_option kind word.now }
+/// The option of a match that a word names. That of `icmp6` stands in a table, as it has no type
+/// for all messages.
+pub(crate) fn own_option(kind: Match, word: &[u8]) -> Option<Row>
+    ensures { result ≡ options.own_option kind word.now }
 {
     match kind {
         Match::Protocol(_) => None,
         Match::Messages(number) => message_option(number, word),
-        Match::Comment => (word == b"--comment".as_slice()).then_some(RuleOption::Comment),
-        Match::Ports => Some(RuleOption::List(side_named(word)?)),
-        Match::Range => Some(RuleOption::Address(range_option(word)?)),
-        Match::Connection => (word == b"--ctstate".as_slice()).then_some(RuleOption::States),
-        Match::State => (word == b"--state".as_slice()).then_some(RuleOption::States),
-        Match::Type => Some(RuleOption::Address(type_option(word)?)),
+        Match::Comment => only_option(b"--comment".as_slice(), (None, 512, false), word),
+        Match::Ports => meaning_of(b"--sports --dports --ports".as_slice(), &PORTS_ROWS, word),
+        Match::Range => meaning_of(b"--src-range --dst-range".as_slice(), &RANGE_ROWS, word),
+        Match::Connection => only_option(
+            b"--ctstate".as_slice(),
+            (Some(RuleOption::States(true)), 512, true),
+            word,
+        ),
+        Match::State => only_option(
+            b"--state".as_slice(),
+            (Some(RuleOption::States(false)), 512, true),
+            word,
+        ),
+        Match::Type => meaning_of(b"--src-type --dst-type".as_slice(), &TYPE_ROWS, word),
     }
 }
 
-/// The option of `icmp` that a word names. That of `icmp6` stands in a table, as it has no type for
-/// all messages.
-fn message_option(number: u64, word: &[u8]) -> Option<RuleOption>
-    ensures { result ≡ message_option number word.now }
+/// The option of messages, where there is a type for all.
+fn message_option(number: u64, word: &[u8]) -> Option<Row>
+    ensures { result ≡ options.message_option number word.now }
 {
-    if number == 1 && word == b"--icmp-type".as_slice() {
-        return Some(RuleOption::Message);
+    if number == 1 {
+        let row = (Some(RuleOption::Message), 512, true);
+        return only_option(b"--icmp-type".as_slice(), row, word);
     }
     None
 }
 
-/// The side of the ports that an option of `multiport` is about.
-fn side_named(word: &[u8]) -> Option<Side>
-    ensures { result ≡ side_named word.now }
+/// An option, if the word is its name.
+fn only_option(name: &[u8], row: Row, word: &[u8]) -> Option<Row>
+    ensures { result ≡ options.only_option name.now row word.now }
 {
-    if word == b"--sports".as_slice() {
-        Some(Side::Source)
-    } else if word == b"--dports".as_slice() {
-        Some(Side::Destination)
-    } else if word == b"--ports".as_slice() {
-        Some(Side::Either)
-    } else {
-        None
-    }
-}
-
-/// The option of `iprange` that a word names.
-fn range_option(word: &[u8]) -> Option<AddressOption>
-    ensures { result ≡ range_option word.now }
-{
-    if word == b"--src-range".as_slice() {
-        Some(AddressOption::SourceRange)
-    } else if word == b"--dst-range".as_slice() {
-        Some(AddressOption::DestinationRange)
-    } else {
-        None
-    }
-}
-
-/// The option of `addrtype` that a word names.
-fn type_option(word: &[u8]) -> Option<AddressOption>
-    ensures { result ≡ type_option word.now }
-{
-    if word == b"--src-type".as_slice() {
-        Some(AddressOption::SourceType)
-    } else if word == b"--dst-type".as_slice() {
-        Some(AddressOption::DestinationType)
-    } else {
-        None
-    }
-}
-
-/// Whether `!` may stand before an option.
-pub(crate) fn may_be_negated(option: RuleOption) -> bool
-    ensures { result ≡ may_be_negated option }
-{
-    match option {
-        RuleOption::Address(_)
-        | RuleOption::Protocol
-        | RuleOption::Interface(_)
-        | RuleOption::SourcePorts
-        | RuleOption::DestinationPorts
-        | RuleOption::List(_)
-        | RuleOption::States
-        | RuleOption::Message => true,
-        RuleOption::Match
-        | RuleOption::Jump
-        | RuleOption::Go
-        | RuleOption::Answer
-        | RuleOption::Comment => false,
-    }
+    if word == name { Some(row) } else { None }
 }
 
 /// The verdict that a target names.
 pub(crate) fn verdict_named(word: &[u8]) -> Option<Verdict>
-    ensures { result ≡ verdict_named word.now }
+    ensures { result ≡ options.verdict_named word.now }
 {
-    if word == b"ACCEPT".as_slice() {
-        Some(Verdict::Accept)
-    } else if word == b"DROP".as_slice() {
-        Some(Verdict::Drop)
-    } else if word == b"REJECT".as_slice() {
-        Some(Verdict::Reject)
-    } else if word == b"RETURN".as_slice() {
-        Some(Verdict::Return)
-    } else {
-        None
-    }
-}
-
-/// Whether REJECT of iptables has this answer, besides a reset.
-pub(crate) fn is_ip4_answer(word: &[u8]) -> bool
-    ensures { result ≡ is_ip4_answer word.now }
-{
-    word == b"icmp-port-unreachable".as_slice()
-        || word == b"icmp-net-unreachable".as_slice()
-        || word == b"icmp-host-unreachable".as_slice()
-        || word == b"icmp-proto-unreachable".as_slice()
-        || word == b"icmp-net-prohibited".as_slice()
-        || word == b"icmp-host-prohibited".as_slice()
-        || word == b"icmp-admin-prohibited".as_slice()
-}
-
-/// Whether REJECT of ip6tables has this answer, besides a reset.
-pub(crate) fn is_ip6_answer(word: &[u8]) -> bool
-    ensures { result ≡ is_ip6_answer word.now }
-{
-    word == b"icmp6-port-unreachable".as_slice()
-        || word == b"icmp6-no-route".as_slice()
-        || word == b"icmp6-adm-prohibited".as_slice()
-        || word == b"icmp6-addr-unreachable".as_slice()
-        || word == b"icmp6-policy-fail".as_slice()
-        || word == b"icmp6-reject-route".as_slice()
+    meaning_of(b"ACCEPT DROP REJECT RETURN".as_slice(), &VERDICTS, word)
 }

@@ -1,365 +1,253 @@
-//! A rule of a list, read word by word.
+//! A rule of a list, option by option.
 //!
-//! After an option's name its value stands. An option is known once its match or its target is
-//! named: those of the match that was named last, and those of the target, may follow. What was
-//! read so far says which word comes next.
+//! An option is a name, perhaps after `!`, and its value, or as many words as it has. It is known
+//! once its match or its target is named: those of the match that was named last, and those of the
+//! target, may follow.
 
-ghost use Rattle.std.specs.Prelude.{◌≡◌};
+ghost use Rattle.std.specs.Prelude.{◌≡◌, MatchResult, Ok};
 ghost use Rattle.text_scan.specs.Parts.{words_of};
+ghost use Rattle.iptables_reader.specs.Stops.{Refuses};
 ghost use Rattle.iptables_reader.specs.Reading as reading;
 
-use crate::fault::LineKind;
-use crate::named_chains::NamedChains;
-use crate::options::{RuleOption, Verdict, Way, base_option, may_be_negated, own_option};
-use crate::parts::{Act, Next, Reading, Rows};
-use crate::quotes::{Quotes, first_quotes, quotes_after};
-use crate::tables::{Listed, matches, option_in, targets};
-use crate::values::has_ports;
-use field_defs::Family;
-use text_scan::next_word;
+use crate::fault::{LineKind, Stop};
+use crate::options::{Match, Row, Verdict, any_option, own_option};
+use crate::setting::Setting;
+use crate::tables::{matches, option_in, targets};
+use crate::words::Words;
+use list_packets::Caught;
+use std::alloc::AllocError;
+use std::marker::Model;
+
+/// What a rule does with the packets that it catches. Chains are named by their places.
+#[derive(Clone, Copy)]
+pub(crate) enum Act {
+    Decide(Verdict),
+    Jump(usize),
+    Go(usize),
+    /// The next rule is asked.
+    Pass,
+}
+
+/// The options that may follow, which a table has from a place on.
+#[derive(Clone, Copy)]
+pub(crate) enum Rows {
+    /// None.
+    Nothing,
+    /// Those of a match.
+    Match(usize),
+    /// Those of a target.
+    Target(usize),
+}
+
+/// The value of an option, which `!` may stand before. Contracts see a record of both.
+#[derive(Drop)]
+pub(crate) struct Value<'a> {
+    pub(crate) negated: bool,
+    pub(crate) word: &'a [u8],
+}
+
+impl<'a> Model for Value<'a> {
+    ghost use Rattle.iptables_reader.specs.OptionValues.{OptionValue};
+
+    ghost Value = { OptionValue };
+
+    ghost view = { λ value. record { negated = value.negated; word = value.word.now } };
+}
+
+/// What the options of a rule said so far.
+#[derive(Drop)]
+pub(crate) struct Reading {
+    /// The bits of the options that came.
+    pub(crate) given: u32,
+    /// The number of the protocol that packets have to have, and 0 where none is known.
+    pub(crate) known: u64,
+    /// A match on this protocol was named.
+    pub(crate) matched: bool,
+    /// The match that was named last, if its options are read, and whether one has to come next.
+    pub(crate) kind: Option<Match>,
+    pub(crate) own: bool,
+    /// The options that no rule file says, or that decide nothing.
+    pub(crate) rows: Rows,
+    pub(crate) caught: Caught,
+    /// No packet has what is assumed.
+    pub(crate) never: bool,
+    /// The first cause why no rule file says which packets it catches.
+    pub(crate) cause: Option<LineKind>,
+    pub(crate) act: Option<Act>,
+}
 
 impl Reading {
-    ghost use Rattle.std.specs.Prelude.{◌≡◌};
-    ghost use Rattle.iptables_reader.specs.Parts as parts;
+    ghost use Rattle.std.specs.Prelude.{◌≡◌, IfOk, MatchResult, Ok};
+    ghost use Rattle.iptables_reader.specs.OptionValues as values;
     ghost use Rattle.iptables_reader.specs.Reading as reading;
+    ghost use Rattle.iptables_reader.specs.Stops.{Makes, Refuses};
 
-    /// Nothing was read yet of a rule of the chain of a name.
-    fn first(chain: &[u8]) -> Reading
-        ensures { result ≡ parts.first_reading chain.now }
+    /// Nothing was read yet.
+    fn first(setting: &Setting) -> Result<Reading, AllocError>
+        ensures { IfOk result (λ first. first ≡ reading.first_reading setting.now.family) }
     {
-        Reading {
-            next: Next::Name,
-            negated: false,
-            comes: chain != b"OUTPUT".as_slice(),
-            leaves: chain != b"INPUT".as_slice(),
+        let caught = Caught::all(setting.alloc, setting.family)?;
+        Ok(Reading {
+            given: 0,
             known: 0,
             matched: false,
             kind: None,
+            own: false,
             rows: Rows::Nothing,
-            protocol: None,
-            source: None,
-            destination: None,
-            source_range: None,
-            destination_range: None,
-            source_type: None,
-            destination_type: None,
-            source_ports: None,
-            destination_ports: None,
-            list: None,
-            incoming: false,
-            outgoing: false,
-            stated: false,
+            caught,
             never: false,
             cause: None,
             act: None,
-            answered: false,
-        }
-    }
-
-    /// The same, where an option was read whole and the name of another may come.
-    pub(crate) fn settled(self) -> Reading
-        ensures { result ≡ parts.settled self }
-    {
-        Reading {
-            next: Next::Name,
-            negated: false,
-            ..self
-        }
-    }
-
-    /// The same before another kind of word.
-    pub(crate) fn before_word(self, next: Next) -> Reading
-        ensures { result ≡ parts.before_word next self }
-    {
-        Reading { next, ..self }
-    }
-
-    /// The same with a cause why no rule file says it, if none came before.
-    pub(crate) fn with_cause(self, kind: LineKind) -> Reading
-        ensures { result ≡ parts.with_cause kind self }
-    {
-        let cause = match self.cause {
-            Some(first) => Some(first),
-            None => Some(kind),
-        };
-        Reading { cause, ..self }
-    }
-
-    /// `!`, of which two don't follow each other.
-    fn with_negation(self) -> Result<Reading, LineKind>
-        ensures { result ≡ reading.with_negation self }
-    {
-        if self.negated {
-            return Err(LineKind::BadNegation);
-        }
-        Ok(Reading {
-            negated: true,
-            ..self
         })
     }
 
-    /// Whether an option came before. One of a match that has no other is read right after it.
-    fn is_given(&self, option: RuleOption) -> bool
-        ensures { result ≡ reading.is_given self.now option }
+    /// A cause why no rule file says it, if none came before.
+    pub(crate) fn put_cause(&mut self, kind: LineKind)
+        ensures { self.new ≡ values.with_cause kind self.old }
     {
-        match option {
-            RuleOption::Address(which) => self.has_addresses(which),
-            RuleOption::Protocol => self.protocol.is_some(),
-            RuleOption::Interface(Way::In) => self.incoming,
-            RuleOption::Interface(Way::Out) => self.outgoing,
-            RuleOption::SourcePorts => self.source_ports.is_some(),
-            RuleOption::DestinationPorts => self.destination_ports.is_some(),
-            RuleOption::Match => false,
-            RuleOption::Jump | RuleOption::Go => self.act.is_some(),
-            RuleOption::Answer => self.answered,
-            RuleOption::List(_) => self.list.is_some(),
-            RuleOption::States => self.stated,
-            RuleOption::Comment | RuleOption::Message => !is_own(self.next),
+        if self.cause.is_none() {
+            self.cause = Some(kind);
         }
     }
 
-    /// Whether what an option needs is there: ports need a protocol that has some, an answer the
-    /// target REJECT, and an interface packets that have one.
-    fn has_needs(&self, option: RuleOption) -> bool
-        ensures { result ≡ reading.has_needs self.now option }
-    {
-        match option {
-            RuleOption::SourcePorts | RuleOption::DestinationPorts => has_ports(self.known),
-            RuleOption::Answer => rejects(self.act),
-            RuleOption::Interface(Way::In) => self.comes,
-            RuleOption::Interface(Way::Out) => self.leaves,
-            RuleOption::Address(_)
-            | RuleOption::Protocol
-            | RuleOption::Match
-            | RuleOption::Jump
-            | RuleOption::Go
-            | RuleOption::List(_)
-            | RuleOption::Comment
-            | RuleOption::States
-            | RuleOption::Message => true,
-        }
-    }
-
-    /// The value of an option comes next.
-    fn asked_for(self, option: RuleOption) -> Result<Reading, LineKind>
-        ensures { result ≡ reading.asked_for self option }
-    {
-        if self.negated && !may_be_negated(option) {
-            return Err(LineKind::BadNegation);
-        }
-        if self.is_given(option) {
-            return Err(LineKind::OptionTwice);
-        }
-        if !self.has_needs(option) {
-            return Err(lacking(option));
-        }
-        Ok(self.before_word(value_word(option)))
-    }
-
-    /// The option that a word names: one of the last match, or of any rule.
-    fn option_named(&self, word: &[u8]) -> Option<RuleOption>
-        ensures { result ≡ reading.option_named self.now word.now }
+    /// The option that a word names: one of the last match, or of any rule where that may come.
+    fn option_named(&self, name: &[u8]) -> Option<Row>
+        ensures { result ≡ reading.option_named self.now name.now }
     {
         if let Some(kind) = self.kind {
-            if let Some(option) = own_option(kind, word) {
-                return Some(option);
+            if let Some(row) = own_option(kind, name) {
+                return Some(row);
             }
         }
-        if is_own(self.next) {
+        if self.own {
             return None;
         }
-        base_option(word)
+        any_option(name)
     }
 
-    /// `!`, or the name of an option.
-    fn with_name(self, word: &[u8]) -> Result<Reading, LineKind>
-        ensures { result ≡ reading.with_name self word.now }
+    /// An option that begins with a word: `!`, or its name.
+    fn take_option(&mut self, setting: &Setting, word: &[u8], words: &mut Words) -> Result<(), Stop>
+        ensures { Makes (reading.with_option setting.now self.old word.now words.old)
+            (record { reading = self.new; words = words.new }) result }
     {
-        if word == b"!".as_slice() {
-            return self.with_negation();
+        if word != b"!".as_slice() {
+            return self.take_named(setting, false, word, words);
         }
-        match self.option_named(word) {
-            Some(option) => self.asked_for(option),
-            None => self.with_row(word),
+        let name = words.required()?;
+        if name == b"!".as_slice() {
+            return Err(Stop::Faulty(LineKind::BadNegation));
+        }
+        self.take_named(setting, true, name, words)
+    }
+
+    /// An option by its name.
+    fn take_named(
+        &mut self,
+        setting: &Setting,
+        negated: bool,
+        name: &[u8],
+        words: &mut Words,
+    ) -> Result<(), Stop>
+        ensures { Makes (reading.with_named setting.now negated self.old name.now words.old)
+            (record { reading = self.new; words = words.new }) result }
+    {
+        match self.option_named(name) {
+            Some(row) => self.take_row(setting, negated, row, words),
+            None => {
+                let count = self.pass_over(negated, name)?;
+                words.skip(count)
+            }
         }
     }
 
-    /// An option of the last match, which no rule file says, or of the target.
-    fn with_row(self, word: &[u8]) -> Result<Reading, LineKind>
-        ensures { result ≡ reading.with_row self word.now }
+    /// An option that is read, which may not be negated, or comes once.
+    fn take_row(
+        &mut self,
+        setting: &Setting,
+        negated: bool,
+        row: Row,
+        words: &mut Words,
+    ) -> Result<(), Stop>
+        ensures { Makes (reading.with_row setting.now negated self.old row words.old)
+            (record { reading = self.new; words = words.new }) result }
     {
+        let (said, once, may_be_negated) = row;
+        if negated && !may_be_negated {
+            return Err(Stop::Faulty(LineKind::BadNegation));
+        }
+        if self.given & once != 0 {
+            return Err(Stop::Faulty(LineKind::OptionTwice));
+        }
+        self.given |= once;
+        self.own = false;
+        match said {
+            Some(option) => {
+                let word = words.required()?;
+                self.take_value(setting, option, Value { negated, word })
+            }
+            None => words.skip(1),
+        }
+    }
+
+    /// An option of a table: one of the last match, which no rule file says, or of the target, which
+    /// isn't negated. It has so many words.
+    fn pass_over(&mut self, negated: bool, name: &[u8]) -> Result<u64, Stop>
+        ensures { MatchResult result
+            (λ count. reading.passed_over negated self.old name.now
+            ≡ Ok (record { count = count; reading = self.new }))
+            (Refuses (reading.passed_over negated self.old name.now)) }
+    {
+        self.own = false;
         match self.rows {
-            Rows::Nothing => Err(LineKind::UnknownOption),
-            Rows::Match(place) => self.with_match_row(option_in(matches(), place, word)),
-            Rows::Target(place) => self.with_target_row(option_in(targets(), place, word)),
+            Rows::Nothing => Err(Stop::Faulty(LineKind::UnknownOption)),
+            Rows::Match(place) => {
+                let row = option_in(matches(), place, name).ok_or(Stop::Faulty(
+                    LineKind::UnknownOption,
+                ))?;
+                self.put_cause(LineKind::CantSay);
+                self.rows = Rows::Match(row.after);
+                Ok(row.count)
+            }
+            Rows::Target(place) => {
+                if negated {
+                    return Err(Stop::Faulty(LineKind::BadNegation));
+                }
+                let row = option_in(targets(), place, name).ok_or(Stop::Faulty(
+                    LineKind::UnknownOption,
+                ))?;
+                self.rows = Rows::Target(row.after);
+                Ok(row.count)
+            }
         }
     }
 
-    /// An option of the last match.
-    fn with_match_row(self, row: Option<Listed>) -> Result<Reading, LineKind>
-        ensures { result ≡ reading.with_match_row self row }
+    /// The end of the line. A rule that passes packets on, or that none meets, does nothing.
+    fn finish(&mut self) -> Result<(), Stop>
+        ensures { Makes (reading.finished self.old) self.new result }
     {
-        match row {
-            Some(row) => Ok(
-                self.with_cause(LineKind::CantSay)
-                    .with_rows(Rows::Match(row.after))
-                    .before_words(row.count),
-            ),
-            None => Err(LineKind::UnknownOption),
-        }
-    }
-
-    /// An option of the target, which isn't negated.
-    fn with_target_row(self, row: Option<Listed>) -> Result<Reading, LineKind>
-        ensures { result ≡ reading.with_target_row self row }
-    {
-        if self.negated {
-            return Err(LineKind::BadNegation);
-        }
-        match row {
-            Some(row) => Ok(
-                self.with_rows(Rows::Target(row.after))
-                    .before_words(row.count),
-            ),
-            None => Err(LineKind::UnknownOption),
-        }
-    }
-
-    /// The same with other options that may follow.
-    pub(crate) fn with_rows(self, rows: Rows) -> Reading
-        ensures { result ≡ parts.with_rows rows self }
-    {
-        Reading { rows, ..self }
-    }
-
-    /// The same before so many words that decide nothing.
-    fn before_words(self, count: u64) -> Reading
-        ensures { result ≡ parts.before_words count self }
-    {
-        if count == 0 {
-            return self.settled();
-        }
-        self.before_word(Next::Words(count))
-    }
-
-    /// A part of the first of so many words that decide nothing.
-    fn with_quotes(self, count: u64, quotes: Quotes) -> Result<Reading, LineKind>
-        ensures { result ≡ reading.with_quotes count self quotes }
-    {
-        match quotes {
-            Quotes::Closed => Ok(self.before_words(count.saturating_sub(1))),
-            Quotes::Open => Ok(self.before_word(Next::Quoted(count))),
-            Quotes::Broken => Err(LineKind::BadQuotes),
-        }
-    }
-
-    /// The same and one word more.
-    fn with_word(
-        self,
-        family: Family,
-        assumed: &[u8],
-        chains: &NamedChains,
-        word: &[u8],
-    ) -> Result<Reading, LineKind>
-        ensures { result ≡ reading.with_word family assumed.now chains.now self self.next word.now }
-    {
-        match self.next {
-            Next::Name | Next::OwnName => self.with_name(word),
-            Next::Value(option) => self.with_value(family, assumed, chains, option, word),
-            Next::Words(count) => self.with_quotes(count, first_quotes(word)),
-            Next::Quoted(count) => self.with_quotes(count, quotes_after(word)),
-        }
-    }
-
-    /// What is read of a rule, if its line may end here. A rule that passes packets on, or that
-    /// none meets, does nothing.
-    fn finished(self) -> Result<Reading, LineKind>
-        ensures { result ≡ reading.finished self }
-    {
-        if !may_end(self.next) || self.negated {
-            return Err(LineKind::MissingWord);
+        if self.own {
+            return Err(Stop::Faulty(LineKind::MissingWord));
         }
         if passes(self.act) || self.never {
-            return Ok(Reading { act: None, ..self });
+            self.act = None;
         }
-        Ok(self)
+        Ok(())
     }
 }
 
 /// What the text after the name of a rule's chain says, or the first fault from left to right.
-pub(crate) fn options(
-    family: Family,
-    assumed: &[u8],
-    chains: &NamedChains,
-    chain: &[u8],
-    text: &[u8],
-) -> Result<Reading, LineKind>
-    ensures { result
-        ≡ reading.options_of family assumed.now chains.now chain.now (words_of text.now) }
+pub(crate) fn options(setting: &Setting, text: &[u8]) -> Result<Reading, Stop>
+    ensures { MatchResult result
+        (λ read. reading.options_of setting.now (words_of text.now) ≡ Ok read)
+        (Refuses (reading.options_of setting.now (words_of text.now))) }
 {
-    let mut reading = Reading::first(chain);
-    let mut left = text;
-    while let Some((word, rest)) = next_word(left) {
-        reading = reading.with_word(family, assumed, chains, word)?;
-        left = rest;
+    let mut reading = Reading::first(setting)?;
+    let mut words = Words::of(text);
+    while let Some(word) = words.next() {
+        reading.take_option(setting, word, &mut words)?;
     }
-    reading.finished()
-}
-
-/// Whether the name of an option of the last match comes next.
-fn is_own(next: Next) -> bool
-    ensures { result ≡ reading.is_own next }
-{
-    matches!(next, Next::OwnName)
-}
-
-/// Which word comes after the name of an option.
-fn value_word(option: RuleOption) -> Next
-    ensures { result ≡ reading.value_word option }
-{
-    match option {
-        RuleOption::Comment => Next::Words(1),
-        RuleOption::Address(_)
-        | RuleOption::Protocol
-        | RuleOption::Match
-        | RuleOption::Interface(_)
-        | RuleOption::SourcePorts
-        | RuleOption::DestinationPorts
-        | RuleOption::Jump
-        | RuleOption::Go
-        | RuleOption::Answer
-        | RuleOption::List(_)
-        | RuleOption::States
-        | RuleOption::Message => Next::Value(option),
-    }
-}
-
-/// The fault of an option that lacks what it needs.
-fn lacking(option: RuleOption) -> LineKind
-    ensures { result ≡ reading.lacking option }
-{
-    match option {
-        RuleOption::Interface(_) => LineKind::BadInterface,
-        RuleOption::Address(_)
-        | RuleOption::Protocol
-        | RuleOption::Match
-        | RuleOption::SourcePorts
-        | RuleOption::DestinationPorts
-        | RuleOption::Jump
-        | RuleOption::Go
-        | RuleOption::Answer
-        | RuleOption::List(_)
-        | RuleOption::Comment
-        | RuleOption::States
-        | RuleOption::Message => LineKind::NeedsProtocol,
-    }
-}
-
-/// Whether the rule rejects.
-fn rejects(act: Option<Act>) -> bool
-    ensures { result ≡ reading.rejects act }
-{
-    matches!(act, Some(Act::Decide(Verdict::Reject)))
+    reading.finish()?;
+    Ok(reading)
 }
 
 /// Whether the next rule is asked for the same packets.
@@ -367,11 +255,4 @@ fn passes(act: Option<Act>) -> bool
     ensures { result ≡ reading.passes act }
 {
     matches!(act, Some(Act::Pass) | None)
-}
-
-/// Whether a line may end before such a word.
-fn may_end(next: Next) -> bool
-    ensures { result ≡ reading.may_end next }
-{
-    matches!(next, Next::Name)
 }

@@ -1,49 +1,27 @@
 //! A table, line by line, and its chains.
 
-ghost use Rattle.std.specs.Prelude.{◌≡◌, ◌⊎◌, ◌<◌, false, length, map, nat_lt, IfOk, IfSome, MatchResult, Ok, Err};
-ghost use Rattle.text_scan.specs.Parts.{words_of};
+ghost use Rattle.std.specs.Prelude.{◌≡◌, ◌⊎◌, ◌<◌, false, length, map, nat_lt, IfErr, IfOk, IfSome, Ok, Err};
 ghost use Rattle.iptables_reader.specs.Chains.{place_of};
-ghost use Rattle.iptables_reader.specs.Stops.{fault_of};
-ghost use Rattle.iptables_reader.specs.Table.{act_answer, act_target, begins, chains_of, first_role};
-ghost use Rattle.iptables_reader.specs.Table.{is_skipped, list_of, max_list, role_of, said_role};
-ghost use Rattle.iptables_reader.specs.Table.{table_role};
+ghost use Rattle.iptables_reader.specs.Stops.{Tells};
+ghost use Rattle.iptables_reader.specs.Table.{begins, chains_of, is_ruling, is_skipped, list_of, max_list};
 ghost use Rattle.iptables_reader.specs.declared.fault.LineFault.{LineFault};
 
+use crate::answers::Asked;
 use crate::chain::{SavedChain, place_of};
-use crate::declaration::{answer_of, declaration};
+use crate::declaration::{declaration, policy};
 use crate::fault::{IptablesFault, LineFault, LineKind, Stop};
 use crate::head::head;
 use crate::named_chains::NamedChains;
-use crate::options::Verdict;
-use crate::parts::{Act, Reading};
 use crate::reached::unsaid_from;
 use crate::reading::options;
-use field_defs::Family;
-use list_chains::{Chain, Target};
+use crate::setting::Setting;
+use list_chains::Chain;
 use std::alloc::{AllocError, Global};
 use std::marker::Model;
 use text_scan::split_line;
 
 /// How many bytes a list may have.
 pub const MAX_LIST: usize = 16_777_216;
-
-/// What the answer of a rule is.
-#[derive(Clone, Copy)]
-pub enum Answers {
-    /// The number of its line, from 1.
-    Line,
-    /// 1 where it accepts, 2 where it drops, and 3 where it rejects.
-    Verdict,
-}
-
-/// What is asked of a list.
-#[derive(Clone, Copy)]
-pub struct Asked {
-    /// The family of its packets: iptables or ip6tables.
-    pub family: Family,
-    /// What the answers of its rules are.
-    pub answers: Answers,
-}
 
 /// How far a list was read.
 #[derive(Clone, Copy)]
@@ -58,207 +36,170 @@ pub(crate) enum Stage {
     After,
 }
 
-/// A table so far. Contracts see a record of its two parts.
+/// What was read of a list. Contracts see a record without the memory.
 #[derive(Drop)]
-pub(crate) struct Table {
+pub(crate) struct Table<'a> {
+    alloc: Global,
+    asked: Asked,
+    assumed: &'a [u8],
+    /// The number of the last line that was read.
+    number: u32,
     stage: Stage,
     chains: NamedChains,
 }
 
-impl Model for Table {
+impl<'a> Model for Table<'a> {
     ghost use Rattle.iptables_reader.specs.Table.{TableSoFar};
 
     ghost Value = { TableSoFar };
 
-    ghost view = { λ table. record { stage = table.stage; chains = table.chains } };
+    ghost view = { λ table. record {
+      asked = table.asked;
+      assumed = table.assumed.now;
+      number = table.number;
+      stage = table.stage;
+      chains = table.chains;
+    } };
 }
 
-impl Table {
-    ghost use Rattle.std.specs.Prelude.{◌≡◌, ◌<◌, length, IfErr, MatchResult, OnOk, Ok, Err};
-    ghost use Rattle.text_scan.specs.Parts.{words_of};
-    ghost use Rattle.iptables_reader.specs.Stops.{Refuses};
+impl<'a> Table<'a> {
+    ghost use Rattle.std.specs.Prelude.{◌≡◌, ◌+◌, ◌^◌, ◌<◌, IfErr, IfOk, Ok, Err};
+    ghost use Rattle.iptables_reader.specs.Stops.{Makes, Tells};
     ghost use Rattle.iptables_reader.specs.Table as table;
 
     /// Nothing was read.
-    fn new(alloc: Global) -> Table
-        ensures { result ≡ table.no_table }
+    fn new(alloc: Global, asked: Asked, assumed: &'a [u8]) -> Table<'a>
+        ensures { result ≡ table.no_table asked assumed.now }
     {
         Table {
+            alloc,
+            asked,
+            assumed,
+            number: 0,
             stage: Stage::Before,
             chains: NamedChains::new(alloc),
         }
     }
 
-    /// The chains, where the table has ended. Else the last line is at fault, which has the number.
-    fn ended(self, number: u32) -> Result<Vec<SavedChain>, LineFault>
-        ensures { MatchResult result
-            (λ chains. table.ended number self self.stage ≡ Ok chains.items)
-            (λ fault. table.ended number self self.stage ≡ Err fault) }
+    /// One line more is read.
+    fn count(&mut self)
+        requires { self.old.number + 1 < 2 ^ 32 }
+        ensures { self.new ≡ table.counted self.old }
+    {
+        self.number += 1;
+    }
+
+    /// The fault of the last line that was read.
+    fn fault(&self, kind: LineKind) -> LineFault
+        ensures { result ≡ record { line = self.now.number; kind = kind } }
+    {
+        LineFault {
+            line: self.number,
+            kind,
+        }
+    }
+
+    /// The chains, where the table has ended. Else its last line is at fault.
+    fn ended(self) -> Result<Vec<SavedChain>, LineFault>
+        ensures chains { IfOk result (λ chains. table.ended self.entry self.entry.stage ≡ Ok chains.items) }
+        ensures fault { IfErr result (λ fault. table.ended self.entry self.entry.stage ≡ Err fault) }
     {
         match self.stage {
             Stage::After => Ok(self.chains.into_chains()),
-            Stage::Before | Stage::Declaring | Stage::Ruling => Err(LineFault {
-                line: number,
-                kind: LineKind::NoCommit,
-            }),
+            Stage::Before | Stage::Declaring | Stage::Ruling => {
+                Err(self.fault(LineKind::NoCommit))
+            }
         }
     }
 
-    /// A line of a number, from 1.
-    fn add_line(
-        &mut self,
-        alloc: Global,
-        asked: Asked,
-        assumed: &[u8],
-        number: u32,
-        line: &[u8],
-    ) -> Result<(), Stop>
-        ensures ok { OnOk result
-            (table.with_line asked assumed.now number self.old line.now ≡ Ok self.new) }
-        ensures err { IfErr result
-            (Refuses (table.with_line asked assumed.now number self.old line.now)) }
+    /// A line, which was counted.
+    fn add_line(&mut self, line: &[u8]) -> Result<(), Stop>
+        ensures made { Makes (table.with_line self.old line.now) self.new result }
+        ensures number { self.new.number ≡ self.old.number }
     {
-        match line_role(self.stage, line) {
-            Ok(Role::Skipped) => Ok(()),
-            Ok(Role::Begin) => {
-                self.stage = Stage::Declaring;
-                Ok(())
-            }
-            Ok(Role::Declaration) => self.declare(alloc, asked, number, &line[1..]),
-            Ok(Role::Rule) => self.add_rule(alloc, asked, assumed, number, line),
-            Ok(Role::End) => {
-                self.stage = Stage::After;
-                Ok(())
-            }
-            Err(kind) => Err(Stop::Faulty(kind)),
+        if is_skipped(line) {
+            return Ok(());
         }
+        match self.stage {
+            Stage::Before => self.begin(line),
+            Stage::Declaring | Stage::Ruling => self.add_inside(line),
+            Stage::After => Err(Stop::Faulty(LineKind::SecondTable)),
+        }
+    }
+
+    /// The line that begins the table.
+    fn begin(&mut self, line: &[u8]) -> Result<(), Stop>
+        ensures made { Makes (table.begun self.old line.now) self.new result }
+        ensures number { self.new.number ≡ self.old.number }
+    {
+        if line == b"*filter".as_slice() {
+            self.stage = Stage::Declaring;
+            return Ok(());
+        }
+        if begins(b'*', line) {
+            return Err(Stop::Faulty(LineKind::OtherTable));
+        }
+        Err(Stop::Faulty(LineKind::NoTable))
+    }
+
+    /// A line of the table: its end, a chain, or a rule.
+    fn add_inside(&mut self, line: &[u8]) -> Result<(), Stop>
+        ensures made { Makes (table.with_inside self.old line.now) self.new result }
+        ensures number { self.new.number ≡ self.old.number }
+    {
+        if line == b"COMMIT".as_slice() {
+            self.stage = Stage::After;
+            return Ok(());
+        }
+        if begins(b':', line) {
+            return self.declare(&line[1..]);
+        }
+        self.add_rule(line)
     }
 
     /// A line that declares a chain, after its `:`.
-    fn declare(&mut self, alloc: Global, asked: Asked, number: u32, text: &[u8]) -> Result<(), Stop>
-        ensures ok { OnOk result
-            (table.with_declaration asked number self.old text.now ≡ Ok self.new) }
-        ensures err { IfErr result
-            (Refuses (table.with_declaration asked number self.old text.now)) }
+    fn declare(&mut self, text: &[u8]) -> Result<(), Stop>
+        ensures made { Makes (table.with_declaration self.old text.now) self.new result }
+        ensures number { self.new.number ≡ self.old.number }
     {
-        match declaration(asked, number, &self.chains, text) {
-            Ok((name, policy)) => {
-                self.add_chain(alloc, name, policy)?;
-                Ok(())
-            }
-            Err(kind) => Err(Stop::Faulty(kind)),
+        if is_ruling(self.stage) {
+            return Err(Stop::Faulty(LineKind::LateChain));
         }
-    }
-
-    /// Puts a chain without rules after the others.
-    fn add_chain(
-        &mut self,
-        alloc: Global,
-        name: &[u8],
-        policy: Option<u32>,
-    ) -> Result<(), AllocError>
-        ensures { OnOk result
-            (self.new ≡ table.with_chain self.old (record { name = name.now; policy = policy })) }
-    {
-        self.chains.push(alloc, name, policy)
+        let (name, word) = declaration(text)?;
+        if self.chains.place_of(name, false).is_some() {
+            return Err(Stop::Faulty(LineKind::ChainTwice));
+        }
+        let policy = policy(self.asked, self.number, name, word)?;
+        self.chains.push(self.alloc, name, policy)?;
+        Ok(())
     }
 
     /// A line of a rule.
-    fn add_rule(
-        &mut self,
-        alloc: Global,
-        asked: Asked,
-        assumed: &[u8],
-        number: u32,
-        line: &[u8],
-    ) -> Result<(), Stop>
-        ensures ok { OnOk result
-            (table.with_rule asked assumed.now number self.old line.now ≡ Ok self.new) }
-        ensures err { IfErr result
-            (Refuses (table.with_rule asked assumed.now number self.old line.now)) }
+    fn add_rule(&mut self, line: &[u8]) -> Result<(), Stop>
+        ensures made { Makes (table.with_rule self.old line.now) self.new result }
+        ensures number { self.new.number ≡ self.old.number }
     {
-        match head(&self.chains, line) {
-            Ok((place, rest)) => self.add_options(alloc, asked, assumed, number, place, rest),
-            Err(kind) => Err(Stop::Faulty(kind)),
-        }
-    }
-
-    /// What stands after the name of a rule's chain.
-    fn add_options(
-        &mut self,
-        alloc: Global,
-        asked: Asked,
-        assumed: &[u8],
-        number: u32,
-        place: usize,
-        text: &[u8],
-    ) -> Result<(), Stop>
-        requires { place < length self.old.chains }
-        ensures ok { OnOk result
-            (table.with_options asked assumed.now number self.old place (words_of text.now)
-            ≡ Ok self.new) }
-        ensures err { IfErr result
-            (Refuses
-            (table.with_options asked assumed.now number self.old place (words_of text.now))) }
-    {
-        let chain = self.chains.name(place);
-        match options(asked.family, assumed, &self.chains, chain, text) {
-            Ok(reading) => {
-                self.put(alloc, asked, assumed, number, place, &reading)?;
-                Ok(())
-            }
-            Err(kind) => Err(Stop::Faulty(kind)),
-        }
-    }
-
-    /// Puts a line after the others of its chain.
-    fn put(
-        &mut self,
-        alloc: Global,
-        asked: Asked,
-        assumed: &[u8],
-        number: u32,
-        place: usize,
-        reading: &Reading,
-    ) -> Result<(), AllocError>
-        requires { place < length self.old.chains }
-        ensures { OnOk result
-            (self.new ≡ table.with_reading asked assumed.now number self.old place reading.now) }
-    {
+        let (place, text) = head(&self.chains, line)?;
+        let setting = Setting {
+            alloc: self.alloc,
+            family: self.asked.family,
+            assumed: self.assumed,
+            chains: &self.chains,
+            chain: self.chains.name(place),
+        };
+        let reading = options(&setting, text)?;
         self.stage = Stage::Ruling;
         self.chains
-            .add_line(alloc, asked, assumed, number, place, reading)
+            .add_line(self.alloc, self.asked, self.number, place, &reading)?;
+        Ok(())
     }
 }
 
-/// What a line is in its list.
-#[derive(Clone, Copy)]
-pub(crate) enum Role {
-    /// It says nothing.
-    Skipped,
-    /// It begins the table.
-    Begin,
-    /// It declares a chain.
-    Declaration,
-    /// It is a rule.
-    Rule,
-    /// It ends the table.
-    End,
-}
-
-/// What a line is, by how far the list was read.
-fn line_role(stage: Stage, line: &[u8]) -> Result<Role, LineKind>
-    ensures { result ≡ role_of stage line.now }
+/// Whether rules follow the chains.
+fn is_ruling(stage: Stage) -> bool
+    ensures { result ≡ is_ruling stage }
 {
-    if is_skipped(line) {
-        return Ok(Role::Skipped);
-    }
-    match stage {
-        Stage::Before => first_role(line),
-        Stage::Declaring => table_role(true, line),
-        Stage::Ruling => table_role(false, line),
-        Stage::After => Err(LineKind::SecondTable),
-    }
+    matches!(stage, Stage::Ruling)
 }
 
 /// Whether a line is empty or a comment.
@@ -278,59 +219,6 @@ fn begins(byte: u8, line: &[u8]) -> bool
     }
 }
 
-/// What a line before the table is.
-fn first_role(line: &[u8]) -> Result<Role, LineKind>
-    ensures { result ≡ first_role line.now }
-{
-    if line == b"*filter".as_slice() {
-        return Ok(Role::Begin);
-    }
-    if begins(b'*', line) {
-        return Err(LineKind::OtherTable);
-    }
-    Err(LineKind::NoTable)
-}
-
-/// What a line of the table is, where chains may be declared or not.
-fn table_role(may_declare: bool, line: &[u8]) -> Result<Role, LineKind>
-    ensures { result ≡ table_role may_declare line.now }
-{
-    if line == b"COMMIT".as_slice() {
-        return Ok(Role::End);
-    }
-    if !begins(b':', line) {
-        return Ok(Role::Rule);
-    }
-    if may_declare {
-        return Ok(Role::Declaration);
-    }
-    Err(LineKind::LateChain)
-}
-
-/// What a rule answers for the packets that it decides.
-pub(crate) fn act_answer(answers: Answers, number: u32, act: Act) -> u32
-    ensures { result ≡ act_answer answers number act }
-{
-    match act {
-        Act::Decide(verdict) => answer_of(answers, number, verdict),
-        Act::Jump(_) | Act::Go(_) | Act::Pass => number,
-    }
-}
-
-/// What a rule does with the packets that it catches.
-pub(crate) fn act_target(act: Act) -> Target
-    ensures { result ≡ act_target act }
-{
-    match act {
-        Act::Decide(Verdict::Return) => Target::Return,
-        Act::Decide(Verdict::Accept | Verdict::Drop | Verdict::Reject) | Act::Pass => {
-            Target::Decide
-        }
-        Act::Jump(place) => Target::Jump(place),
-        Act::Go(place) => Target::Go(place),
-    }
-}
-
 /// The chains of a list of iptables-save or ip6tables-save, for packets that come to the chain
 /// `name`, or a faulty line.
 ///
@@ -346,7 +234,7 @@ pub(crate) fn act_target(act: Act) -> Target
 /// meets. Whatever else stands in any rule is a fault.
 ///
 /// `assumed` is what is assumed of all packets, as `in=eth0,out=eth1,state=new,local=10.0.0.1`, or
-/// empty; [`is_assumption`](crate::is_assumption) tells whether a text is one. If no chain has the
+/// empty; [`is_assumption`](list_packets::is_assumption) tells whether a text is one. If no chain has the
 /// name, all of them are given.
 ///
 /// `Line` comes exactly where the file is too long (line 0), some line is faulty (the first one,
@@ -386,25 +274,25 @@ fn read_list(
 ) -> Result<Vec<SavedChain>, IptablesFault>
     ensures chains { IfOk result
         (λ chains. list_of asked assumed.now bytes.now ≡ Ok chains.items) }
-    ensures line { (fault : LineFault) → result ≡ Err (IptablesFault.Line fault)
-        → list_of asked assumed.now bytes.now ≡ Err fault }
-    ensures refused { (fault : LineFault) → list_of asked assumed.now bytes.now ≡ Err fault
-        → (result ≡ Err (IptablesFault.Line fault)) ⊎ (result ≡ Err IptablesFault.OutOfMemory) }
+    ensures fault { IfErr result (Tells (list_of asked assumed.now bytes.now)) }
 {
     if is_too_long(bytes) {
-        return Err(line_fault(0, LineKind::FileTooLong));
+        return Err(IptablesFault::Line(LineFault {
+            line: 0,
+            kind: LineKind::FileTooLong,
+        }));
     }
-    let mut table = Table::new(alloc);
+    let mut table = Table::new(alloc, asked, assumed);
     let mut left = bytes;
-    let mut number = 0;
     while let Some((line, rest)) = split_line(left) {
-        number += 1;
-        match table.add_line(alloc, asked, assumed, number, line) {
+        table.count();
+        match table.add_line(line) {
             Ok(()) => left = rest,
-            Err(stop) => return Err(fault_of(number, stop)),
+            Err(Stop::Faulty(kind)) => return Err(IptablesFault::Line(table.fault(kind))),
+            Err(Stop::OutOfMemory) => return Err(IptablesFault::OutOfMemory),
         }
     }
-    match table.ended(number) {
+    match table.ended() {
         Ok(chains) => Ok(chains),
         Err(fault) => Err(IptablesFault::Line(fault)),
     }
@@ -415,23 +303,6 @@ fn is_too_long(bytes: &[u8]) -> bool
     ensures { result ≡ nat_lt max_list (length bytes.now) }
 {
     bytes.len() > MAX_LIST
-}
-
-/// The fault of a line.
-fn line_fault(line: u32, kind: LineKind) -> IptablesFault
-    ensures { result ≡ IptablesFault.Line (record { line = line; kind = kind }) }
-{
-    IptablesFault::Line(LineFault { line, kind })
-}
-
-/// Why a list isn't read whose line isn't.
-fn fault_of(line: u32, stop: Stop) -> IptablesFault
-    ensures { result ≡ fault_of line stop }
-{
-    match stop {
-        Stop::Faulty(kind) => line_fault(line, kind),
-        Stop::OutOfMemory => IptablesFault::OutOfMemory,
-    }
 }
 
 /// The place of the chain of a name. It takes no memory.

@@ -6,12 +6,12 @@
 
 ghost use Rattle.std.specs.Prelude.{◌≡◌, ◌<◌, drop, length};
 ghost use Rattle.text_scan.specs.Parts.{words_of};
-ghost use Rattle.iptables_reader.specs.Tables.{assumed_state_table, count_said, is_option};
-ghost use Rattle.iptables_reader.specs.Tables.{match_table, number_in, number_said, option_from};
-ghost use Rattle.iptables_reader.specs.Tables.{option_in, owner_from, owner_in, protocol_table};
-ghost use Rattle.iptables_reader.specs.Tables.{state_table, target_table};
+ghost use Rattle.iptables_reader.specs.Tables.{answer_table, count_said, is_option, match_table};
+ghost use Rattle.iptables_reader.specs.Tables.{option_from, option_in, owner_from, owner_in};
+ghost use Rattle.iptables_reader.specs.Tables.{protocol_table, state_table, target_table};
 
-use crate::values::plain_number;
+use field_defs::Family;
+use list_packets::plain_number;
 use text_scan::{next_word, split_once};
 
 /// The greatest number in a table.
@@ -45,14 +45,6 @@ pub(crate) fn states() -> &'static [u8]
     ensures { result.now ≡ state_table }
 {
     b"INVALID=1 NEW=2 ESTABLISHED=3 RELATED=4 UNTRACKED=5 SNAT=6 DNAT=6".as_slice()
-}
-
-/// The states that can be assumed.
-#[tactic(auto, unfolding(crate::specs::Tables::assumed_state_table))]
-pub(crate) fn assumed_states() -> &'static [u8]
-    ensures { result.now ≡ assumed_state_table }
-{
-    b"invalid=1 new=2 established=3 related=4 untracked=5".as_slice()
 }
 
 /// The matches, each before those of its options that no rule file says.
@@ -107,29 +99,19 @@ pub(crate) fn targets() -> &'static [u8]
         .as_slice()
 }
 
-/// The number that a table has for a name.
-pub(crate) fn number_in(table: &[u8], name: &[u8]) -> Option<u64>
-    ensures { result ≡ number_in name.now (words_of table.now) }
+/// The answers of REJECT of a family, besides a reset.
+#[tactic(auto, unfolding(crate::specs::Tables::answer_table))]
+pub(crate) fn answers(family: Family) -> &'static [u8]
+    ensures { result.now ≡ answer_table family }
 {
-    let mut left = table;
-    while let Some((word, rest)) = next_word(left) {
-        match number_said(word, name) {
-            Some(number) => return Some(number),
-            None => left = rest,
-        }
+    match family {
+        Family::Ip4 => b"icmp-port-unreachable icmp-net-unreachable icmp-host-unreachable \
+            icmp-proto-unreachable icmp-net-prohibited icmp-host-prohibited icmp-admin-prohibited"
+            .as_slice(),
+        Family::Ip6 => b"icmp6-port-unreachable icmp6-no-route icmp6-adm-prohibited \
+            icmp6-addr-unreachable icmp6-policy-fail icmp6-reject-route"
+            .as_slice(),
     }
-    None
-}
-
-/// The number of a word, if it is that of the name.
-fn number_said(word: &[u8], name: &[u8]) -> Option<u64>
-    ensures { result ≡ number_said name.now word.now }
-{
-    let (named, number) = split_once(word, b'=')?;
-    if named != name {
-        return None;
-    }
-    plain_number(number, MAX_NUMBER)
 }
 
 /// The place after the name of a match or target.

@@ -1,125 +1,27 @@
-//! Numbers, protocols, ports and networks, as a word spells them.
+//! Protocols, states of connections, lists of ports, and counters, as a word spells them.
 
-ghost use Rattle.std.specs.Prelude.{◌≡◌, ◌≤◌, ◌<◌, ◌^◌, IfSome};
-ghost use Rattle.iptables_reader.specs.Values.{address_alone, address_of, closed_span, filled_range};
-ghost use Rattle.iptables_reader.specs.Values.{filled_span, has_ports, wide_span};
-ghost use Rattle.iptables_reader.specs.Values.{ip4_spans, ip4_plain, ip6_spans, is_closed};
-ghost use Rattle.iptables_reader.specs.Values.{is_counters, is_opened, is_plain, most_bits, network_of};
-ghost use Rattle.iptables_reader.specs.Values.{plain_number, port_or, port_span, prefix_span};
-ghost use Rattle.iptables_reader.specs.Values.{protocol_span, range_of, spans_of_address};
-ghost use Rattle.iptables_reader.specs.Tables.{protocol_of};
+ghost use Rattle.std.specs.Prelude.{◌≡◌, MatchResult, Ok};
+ghost use Rattle.text_scan.specs.Parts.{parts_of};
+ghost use Rattle.list_packets.specs.Values.{comma};
+ghost use Rattle.iptables_reader.specs.Stops.{Makes, Refuses};
+ghost use Rattle.iptables_reader.specs.Values as values;
 
-use crate::tables::{number_in, protocols};
-use field_defs::Family;
+use crate::fault::{LineKind, Stop};
+use crate::tables::{protocols, states};
 use list_chains::Span;
-use text_scan::{digits_value, ip4_text, ip6_text, put_ip4, split_once};
-
-/// The greatest port.
-pub(crate) const MAX_PORT: u64 = 65_535;
+use list_packets::{closed_span, number_in, plain_number};
+use std::alloc::Global;
+use text_scan::split_once;
 
 /// The greatest number of a protocol.
 const MAX_PROTOCOL: u64 = 255;
 
-/// The spans of an address's two halves of 64 bits. An IPv4 address has the low one alone.
-#[derive(Clone, Copy)]
-pub struct AddressSpans {
-    /// The numbers of the first 64 bits.
-    pub high: Span,
-    /// The numbers of the last 64 bits.
-    pub low: Span,
-}
-
-/// The addresses from one to another.
-#[derive(Clone, Copy)]
-pub struct AddressRange {
-    /// The first of them.
-    pub low: u128,
-    /// The last of them.
-    pub high: u128,
-}
-
-/// The number that a word spells in decimal, without leading zeros and at most so great.
-pub(crate) fn plain_number(word: &[u8], greatest: u64) -> Option<u64>
-    ensures number { result ≡ plain_number greatest word.now }
-    ensures bound { IfSome result (λ number. number ≤ greatest) }
-{
-    if !is_plain(word) {
-        return None;
-    }
-    let number = digits_value(word, 10)?;
-    (number <= greatest).then_some(number)
-}
-
-/// Whether a word has a byte, and no zero before others.
-fn is_plain(word: &[u8]) -> bool
-    ensures { result ≡ is_plain word.now }
-{
-    !matches!(word, [] | [b'0', _, ..])
-}
-
-/// The span of a port, or of two around `:`, the lower first.
-pub(crate) fn closed_span(word: &[u8]) -> Option<Span>
-    ensures { result ≡ closed_span word.now }
-{
-    match split_once(word, b':') {
-        Some((low, high)) => {
-            let low = plain_number(low, MAX_PORT)?;
-            wide_span(low, plain_number(high, MAX_PORT)?)
-        }
-        None => {
-            let port = plain_number(word, MAX_PORT)?;
-            filled_span(port, port)
-        }
-    }
-}
-
-/// The same, where the least port may be left out before `:`, and the greatest after it.
-pub(crate) fn port_span(word: &[u8]) -> Option<Span>
-    ensures { result ≡ port_span word.now }
-{
-    match split_once(word, b':') {
-        Some((low, high)) => {
-            let low = port_or(low, 0)?;
-            filled_span(low, port_or(high, MAX_PORT)?)
-        }
-        None => closed_span(word),
-    }
-}
-
-/// A port, or another one where it is left out.
-fn port_or(text: &[u8], other: u64) -> Option<u64>
-    ensures { result ≡ port_or other text.now }
-{
-    if text.is_empty() {
-        return Some(other);
-    }
-    plain_number(text, MAX_PORT)
-}
-
-/// The span from one number to another that is above it.
-fn wide_span(low: u64, high: u64) -> Option<Span>
-    ensures { result ≡ wide_span low high }
-{
-    if low == high {
-        return None;
-    }
-    filled_span(low, high)
-}
-
-/// The span from one number to another, if that isn't below the first.
-fn filled_span(low: u64, high: u64) -> Option<Span>
-    ensures { result ≡ filled_span low high }
-{
-    if low <= high {
-        Some(Span { low, high })
-    } else {
-        None
-    }
-}
+/// How many ports a list has at most, where a range counts twice.
+pub(crate) const MAX_PORTS: usize = 15;
 
 /// The number of a protocol, by its name or its number. 0 stands for all.
 pub(crate) fn protocol(word: &[u8]) -> Option<u64>
-    ensures { result ≡ protocol_of word.now }
+    ensures { result ≡ values.protocol_of word.now }
 {
     match number_in(protocols(), word) {
         Some(number) => Some(number),
@@ -127,165 +29,103 @@ pub(crate) fn protocol(word: &[u8]) -> Option<u64>
     }
 }
 
-/// How many bits an address of the family has.
-pub fn most_bits(family: Family) -> u64
-    ensures is { result ≡ most_bits family }
-    ensures few { result ≤ 128 }
+/// Whether a word lists states.
+pub(crate) fn are_states(word: &[u8]) -> bool
+    ensures { result ≡ values.are_states (parts_of comma word.now) }
 {
-    match family {
-        Family::Ip4 => 32,
-        Family::Ip6 => 128,
-    }
-}
-
-/// The halves of an address with a prefix length, or without, where all bits count.
-pub(crate) fn network(family: Family, word: &[u8]) -> Option<AddressSpans>
-    ensures { result ≡ network_of family word.now }
-{
-    match split_once(word, b'/') {
-        Some((text, bits)) => {
-            let bits = plain_number(bits, most_bits(family))?;
-            spans_of_address(family, text, bits)
+    let mut left = word;
+    while let Some((part, rest)) = split_once(left, b',') {
+        if number_in(states(), part).is_none() {
+            return false;
         }
-        None => spans_of_address(family, word, most_bits(family)),
+        left = rest;
     }
+    number_in(states(), left).is_some()
 }
 
-/// The halves of an address alone, whose text is that of [`address`]. It takes no memory.
-pub fn address_alone(family: Family, text: &[u8]) -> Option<AddressSpans>
-    ensures { result ≡ address_alone family text.now }
+/// Whether a word lists the state of a number.
+pub(crate) fn has_state(word: &[u8], number: u64) -> bool
+    ensures { result ≡ values.has_state number (parts_of comma word.now) }
 {
-    spans_of_address(family, text, most_bits(family))
-}
-
-/// The number of an address by its text: that of IPv4 as it is printed, without leading zeros, and
-/// any one of IPv6. It takes no memory.
-///
-/// Source: RFC 4291, 2.2 (address texts).
-pub fn address(family: Family, text: &[u8]) -> Option<u128>
-    ensures { result ≡ address_of family text.now }
-{
-    match family {
-        Family::Ip4 => Some(u128::from(ip4_plain(text)?)),
-        Family::Ip6 => ip6_text(text),
-    }
-}
-
-/// The addresses from one to another around `-`, or one alone.
-pub(crate) fn address_range(family: Family, word: &[u8]) -> Option<AddressRange>
-    ensures { result ≡ range_of family word.now }
-{
-    match split_once(word, b'-') {
-        Some((low, high)) => {
-            let low = address(family, low)?;
-            filled_range(low, address(family, high)?)
+    let mut left = word;
+    while let Some((part, rest)) = split_once(left, b',') {
+        if is_state_of(part, number) {
+            return true;
         }
-        None => {
-            let only = address(family, word)?;
-            filled_range(only, only)
-        }
+        left = rest;
+    }
+    is_state_of(left, number)
+}
+
+/// Whether a word is the state of a number.
+fn is_state_of(word: &[u8], number: u64) -> bool
+    ensures { result ≡ values.is_state_of number word.now }
+{
+    match number_in(states(), word) {
+        Some(said) => said == number,
+        None => false,
     }
 }
 
-/// The addresses from one to another, if that isn't below the first. It takes no memory.
-pub fn filled_range(low: u128, high: u128) -> Option<AddressRange>
-    ensures { result ≡ filled_range low high }
+/// The spans of a list of ports.
+pub(crate) fn port_spans(alloc: Global, word: &[u8]) -> Result<Vec<Span>, Stop>
+    ensures { MatchResult result
+        (λ spans. values.port_spans word.now ≡ Ok spans.items)
+        (Refuses (values.port_spans word.now)) }
 {
-    if low <= high {
-        Some(AddressRange { low, high })
+    if !has_room(word) {
+        return Err(Stop::Faulty(LineKind::BadPorts));
+    }
+    let mut spans = Vec::new(alloc);
+    let mut left = word;
+    while let Some((part, rest)) = split_once(left, b',') {
+        put_ports(&mut spans, part)?;
+        left = rest;
+    }
+    put_ports(&mut spans, left)?;
+    Ok(spans)
+}
+
+/// Puts the span of a part of a list after others.
+fn put_ports(into: &mut Vec<Span>, part: &[u8]) -> Result<(), Stop>
+    ensures { Makes (values.with_part into.old.items part.now) into.new.items result }
+{
+    let span = closed_span(part).ok_or(Stop::Faulty(LineKind::BadPorts))?;
+    into.extend_from_slice(&[span])?;
+    Ok(())
+}
+
+/// Whether a list has no more ports than it may have.
+fn has_room(word: &[u8]) -> bool
+    ensures { result ≡ values.has_room values.max_ports (parts_of comma word.now) }
+{
+    let mut room = MAX_PORTS;
+    let mut left = word;
+    while let Some((part, rest)) = split_once(left, b',') {
+        let ports = port_count(part);
+        if ports > room {
+            return false;
+        }
+        room -= ports;
+        left = rest;
+    }
+    port_count(left) <= room
+}
+
+/// How many ports a part of a list has: a range has two.
+fn port_count(part: &[u8]) -> usize
+    ensures { result ≡ values.port_count part.now }
+{
+    if split_once(part, b':').is_some() {
+        2
     } else {
-        None
-    }
-}
-
-/// The halves of an address, of which so many leading bits count: at most those that it has. Its
-/// text is that of [`address`]. It takes no memory.
-///
-/// Source: RFC 4632, 3.1, and RFC 4291, 2.3 (prefixes).
-pub fn spans_of_address(family: Family, text: &[u8], bits: u64) -> Option<AddressSpans>
-    requires { bits ≤ most_bits family }
-    ensures { result ≡ spans_of_address family text.now bits }
-{
-    match family {
-        Family::Ip4 => Some(ip4_spans(ip4_plain(text)?, bits)),
-        Family::Ip6 => Some(ip6_spans(ip6_text(text)?, bits)),
-    }
-}
-
-/// The IPv4 address that a text spells as it is printed, without leading zeros.
-fn ip4_plain(text: &[u8]) -> Option<u32>
-    ensures { result ≡ ip4_plain text.now }
-{
-    let address = ip4_text(text)?;
-    let mut printed = [0; 40];
-    let len = put_ip4(address, &mut printed);
-    (text == &printed[..len]).then_some(address)
-}
-
-/// The halves of an IPv4 address, of which so many leading bits count.
-pub(crate) fn ip4_spans(address: u32, bits: u64) -> AddressSpans
-    requires { bits ≤ 32 }
-    ensures { result ≡ ip4_spans address bits }
-{
-    AddressSpans {
-        high: prefix_span(0, 64),
-        low: prefix_span(u64::from(address), 32 - bits as u32),
-    }
-}
-
-/// The halves of an IPv6 address, of which so many leading bits count.
-pub(crate) fn ip6_spans(address: u128, bits: u64) -> AddressSpans
-    requires { bits ≤ 128 }
-    ensures { result ≡ ip6_spans address bits }
-{
-    let bits = bits as u32;
-    AddressSpans {
-        high: prefix_span((address >> 64) as u64, 64 - bits.min(64)),
-        low: prefix_span((address & u128::from(u64::MAX)) as u64, 128 - bits.max(64)),
-    }
-}
-
-/// The span of the numbers that agree with a number in all but their last free bits.
-fn prefix_span(number: u64, free: u32) -> Span
-    requires { free ≤ 64 }
-    ensures { result ≡ prefix_span number free }
-{
-    let size = power(free);
-    let low = u128::from(number) / size * size;
-    Span {
-        low: low as u64,
-        high: (low + (size - 1)) as u64,
-    }
-}
-
-/// How many numbers so many free bits have.
-fn power(free: u32) -> u128
-    requires { free ≤ 64 }
-    ensures is { result ≡ 2 ^ free }
-    ensures some { 0 < result }
-{
-    1 << free
-}
-
-/// The span of the numbers that a protocol stands for.
-pub(crate) fn protocol_span(number: u64) -> Span
-    ensures { result ≡ protocol_span number }
-{
-    if number == 0 {
-        return Span {
-            low: 0,
-            high: MAX_PROTOCOL,
-        };
-    }
-    Span {
-        low: number,
-        high: number,
+        1
     }
 }
 
 /// Whether a word is counters of packets and bytes, as `[0:0]`.
 pub(crate) fn is_counters(word: &[u8]) -> bool
-    ensures { result ≡ is_counters word.now }
+    ensures { result ≡ values.is_counters word.now }
 {
     match split_once(word, b':') {
         Some((packets, bytes)) => is_opened(packets) && is_closed(bytes),
@@ -295,7 +135,7 @@ pub(crate) fn is_counters(word: &[u8]) -> bool
 
 /// Whether a text is `[` and a number.
 fn is_opened(text: &[u8]) -> bool
-    ensures { result ≡ is_opened text.now }
+    ensures { result ≡ values.is_opened text.now }
 {
     match text {
         [b'[', number @ ..] => plain_number(number, u64::MAX).is_some(),
@@ -305,17 +145,10 @@ fn is_opened(text: &[u8]) -> bool
 
 /// Whether a text is a number and `]`.
 fn is_closed(text: &[u8]) -> bool
-    ensures { result ≡ is_closed text.now }
+    ensures { result ≡ values.is_closed text.now }
 {
     match split_once(text, b']') {
         Some((number, rest)) => rest.is_empty() && plain_number(number, u64::MAX).is_some(),
         None => false,
     }
-}
-
-/// Whether the protocol of a number has ports that keys have: TCP, UDP and SCTP.
-pub(crate) fn has_ports(number: u64) -> bool
-    ensures { result ≡ has_ports number }
-{
-    number == 6 || number == 17 || number == 132
 }

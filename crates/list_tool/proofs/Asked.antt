@@ -3,8 +3,8 @@ use Rattle.std.proofs.Common.{◌≡◌, List, ℕ, Result, Ok, Err, refl, sym, 
 use Rattle.std.specs.declared.vec.Vec.{Vec}
 use Rattle.std.specs.declared.alloc.Global.{Global}
 use Rattle.rule_set.specs.Rule.{RuleView, RuleSetView}
-use Rattle.iptables_reader.specs.declared.table.Answers.{Answers}
-use Rattle.iptables_reader.specs.declared.table.Answers.TheVariants as answers
+use Rattle.iptables_reader.specs.declared.answers.Answers.{Answers}
+use Rattle.iptables_reader.specs.declared.answers.Answers.TheVariants as answers
 use Rattle.list_tool.specs.declared.status.Refusal.{Refusal}
 use Rattle.list_tool.specs.declared.status.Refusal.TheVariants as refusal
 use Rattle.list_tool.specs.Decides.{Listed}

@@ -2,8 +2,8 @@
 use Rattle.std.proofs.Common.{◌≡◌, ℕ, ◌+◌, List, ◌++◌, length, Err, refl, arith, nat_lt, true, length-append}
 use Rattle.std.proofs.lemmas.Bool.{le-leb}
 use Rattle.iptables_reader.specs.declared.fault.LineKind.TheVariants as line
-use Rattle.iptables_reader.specs.declared.table.Answers.{Answers}
-use Rattle.iptables_reader.specs.declared.table.Answers.TheVariants as answers
+use Rattle.iptables_reader.specs.declared.answers.Answers.{Answers}
+use Rattle.iptables_reader.specs.declared.answers.Answers.TheVariants as answers
 use Rattle.iptables_reader.specs.Table.{max_list}
 use Rattle.cisco_reader.specs.declared.fault.LineKind.TheVariants as entry
 use Rattle.nft_reader.specs.declared.fault.ObjectKind.TheVariants as object

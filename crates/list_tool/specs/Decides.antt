@@ -10,7 +10,7 @@ use Rattle.printed_lists.specs.Listed.{lists_of}
 use Rattle.list_chains.specs.Chains.{decides}
 use Rattle.list_chains.specs.Spans.{in_box}
 use Rattle.list_chains.specs.Tasks.{Chains}
-use Rattle.iptables_reader.specs.declared.table.Answers.{Answers}
+use Rattle.iptables_reader.specs.declared.answers.Answers.{Answers}
 use Rattle.list_tool.specs.declared.listing.Start.{Start}
 use Rattle.list_tool.specs.Listing.{WayView, family_of, layout_of, way_of}
 use Rattle.list_tool.specs.Words.{Request}

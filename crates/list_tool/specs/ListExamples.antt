@@ -3,8 +3,8 @@ use Rattle.std.specs.Prelude.{◌≡◌, ℕ, List, [], ◌∷◌, ◌++◌, cod
 use Rattle.std.specs.Fmt.{digits}
 use Rattle.command_words.specs.declared.usage_fault.UsageKind.TheVariants.{UnknownCommand}
 use Rattle.iptables_reader.specs.declared.fault.LineKind.TheVariants as kind
-use Rattle.iptables_reader.specs.declared.table.Answers.{Answers}
-use Rattle.iptables_reader.specs.declared.table.Answers.TheVariants as answers
+use Rattle.iptables_reader.specs.declared.answers.Answers.{Answers}
+use Rattle.iptables_reader.specs.declared.answers.Answers.TheVariants as answers
 use Rattle.iptables_reader.specs.Table.{with_lines}
 use Rattle.iptables_reader.specs.Tables.{match_table, protocol_table, target_table}
 use Rattle.list_chains.specs.declared.chain.Target.TheVariants as target
@@ -62,13 +62,13 @@ no_list = refl
 
 no_chain : over list (asked Iptables (codes "FORWARD") answers.Line)
     ≡ only (Refused (at_line 0 NoChain))
-unfolding list digits with_lines protocol_table target_table
+unfolding list digits with_lines match_table protocol_table target_table
 no_chain = refl
 
 -- packets come to it from other chains alone
 no_policy : over list (asked Iptables (codes "web") answers.Line)
     ≡ only (Refused (at_line 0 NoPolicy))
-unfolding list digits with_lines protocol_table target_table
+unfolding list digits with_lines match_table protocol_table target_table
 no_policy = refl
 
 -- a line that no rule file says

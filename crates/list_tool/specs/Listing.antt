@@ -16,9 +16,9 @@ use Rattle.list_chains.specs.Chains.{ListRule}
 use Rattle.list_chains.specs.Tasks.{Chains}
 use Rattle.list_chains.specs.Turned.{turned}
 use Rattle.iptables_reader.specs.declared.fault.LineFault.{LineFault}
-use Rattle.iptables_reader.specs.declared.table.Answers.{Answers}
-use Rattle.iptables_reader.specs.declared.table.Answers.TheVariants as answers
-use Rattle.iptables_reader.specs.declared.table.Asked.{Asked}
+use Rattle.iptables_reader.specs.declared.answers.Answers.{Answers}
+use Rattle.iptables_reader.specs.declared.answers.Answers.TheVariants as answers
+use Rattle.iptables_reader.specs.declared.answers.Asked.{Asked}
 use Rattle.iptables_reader.specs.Chains.{ListedChain, place_of}
 use Rattle.iptables_reader.specs.Table.{chains_of}
 use Rattle.cisco_reader.specs.declared.fault.LineFault as cisco

@@ -8,7 +8,7 @@ use Rattle.text_scan.specs.Parts.{lines_of}
 use Rattle.classbench_reader.specs.Limits.{max_rule_file}
 use Rattle.classbench_reader.specs.Print.{has_prefixes}
 use Rattle.printed_lists.specs.Listed.{LineView, Comment, Rule, list_text, numbered}
-use Rattle.iptables_reader.specs.declared.table.Answers.TheVariants as answers
+use Rattle.iptables_reader.specs.declared.answers.Answers.TheVariants as answers
 use Rattle.list_tool.specs.declared.status.ListFault.{ListFault}
 use Rattle.list_tool.specs.declared.status.ListKind.TheVariants.{NoPrefix, TextTooLong}
 use Rattle.list_tool.specs.declared.status.Refusal.{Refusal}

@@ -5,7 +5,7 @@ use Rattle.std.specs.declared.alloc.Global.{Global}
 use Rattle.rule_set.specs.Rule.{RuleView, RuleSetView}
 use Rattle.classbench_reader.specs.RuleFile.{rule_file_of}
 use Rattle.printed_lists.specs.Listed.{lists_of}
-use Rattle.iptables_reader.specs.declared.table.Answers.{Answers}
+use Rattle.iptables_reader.specs.declared.answers.Answers.{Answers}
 use Rattle.list_tool.specs.declared.status.Refusal.{Refusal}
 use Rattle.list_tool.specs.Decides.{IsRuleFileOf, Listed}
 use Rattle.list_tool.specs.declared.words.Form.{Form}

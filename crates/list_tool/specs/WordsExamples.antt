@@ -4,8 +4,8 @@ use Rattle.command_words.specs.declared.usage_fault.UsageFault.{UsageFault}
 use Rattle.command_words.specs.declared.usage_fault.UsageKind.TheVariants.{MissingCommand, UnknownCommand}
 use Rattle.command_words.specs.declared.usage_fault.UsageKind.TheVariants.{MissingName, UnknownOption}
 use Rattle.command_words.specs.declared.usage_fault.UsageKind.TheVariants.{RepeatedOption, BadValue}
-use Rattle.iptables_reader.specs.declared.table.Answers.{Answers}
-use Rattle.iptables_reader.specs.declared.table.Answers.TheVariants.{Line, Verdict}
+use Rattle.iptables_reader.specs.declared.answers.Answers.{Answers}
+use Rattle.iptables_reader.specs.declared.answers.Answers.TheVariants.{Line, Verdict}
 use Rattle.list_tool.specs.declared.words.Form.{Form}
 use Rattle.list_tool.specs.declared.words.Form.TheVariants.{Iptables, Ip6tables, Cisco, Nft, Nft6}
 use Rattle.list_tool.specs.Words.{Request, command, fault_at}

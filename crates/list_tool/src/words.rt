@@ -7,7 +7,8 @@ ghost use Rattle.list_tool.specs.Words.{with_option, with_other};
 ghost use Rattle.list_tool.specs.Requests.{given_of, options_of, request_of};
 
 use command_words::{UsageFault, UsageKind};
-use iptables_reader::{Answers, is_assumption};
+use iptables_reader::Answers;
+use list_packets::is_assumption;
 
 /// The program whose list it is.
 #[derive(Clone, Copy)]

@@ -4,7 +4,7 @@ use Rattle.list_lemmas.proofs.Loops.{left_is}
 use Rattle.json.specs.Json.{Json}
 use Rattle.json.specs.Value.{value_view}
 use Rattle.json.specs.declared.value.Value.{Value}
-use Rattle.iptables_reader.specs.declared.packets.Packets.{Packets}
+use Rattle.list_packets.specs.declared.packets.Packets.{Packets}
 use Rattle.nft_reader.specs.Keys.{parts_boxes, with_thing}
 use Rattle.nft_reader.specs.Known.{Question}
 use Rattle.nft_reader.specs.Stops.{◌>>=◌}

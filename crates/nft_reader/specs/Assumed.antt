@@ -1,15 +1,15 @@
 -- Comparisons with what is known of packets beside their bytes, or assumed (nft(8), "META
 -- EXPRESSIONS" and "CONNTRACK EXPRESSIONS"): each is true of all packets or of none.
-use Rattle.std.specs.Prelude.{ℕ, ◌==◌, Bool, not, ◌&&◌, is_some, if◌then◌else◌, codes}
+use Rattle.std.specs.Prelude.{ℕ, ◌==◌, Bool, false, not, ◌&&◌, is_some, if◌then◌else◌, codes}
 use Rattle.std.specs.Prelude.{List, Option, Some, None, option_and_then, Result, Ok, Err}
 use Rattle.std.specs.List.{list_all, list_any}
 use Rattle.std.specs.Option.{option_map}
 use Rattle.json.specs.Json.{Json}
 use Rattle.json.specs.Find.{as_str}
 use Rattle.text_scan.specs.Parts.{parts_of}
-use Rattle.iptables_reader.specs.Assumed.{assumed_state, is_interface, is_number, meets_interface}
-use Rattle.iptables_reader.specs.Assumed.{state_named, value_in}
-use Rattle.iptables_reader.specs.Ports.{comma}
+use Rattle.list_packets.specs.Assumed.{assumed_state, is_interface, meets_interface}
+use Rattle.list_packets.specs.Assumed.{state_named, value_in}
+use Rattle.list_packets.specs.Values.{comma}
 use Rattle.nft_reader.specs.declared.fault.RuleKind.{RuleKind}
 use Rattle.nft_reader.specs.declared.fault.RuleKind.TheVariants as kind
 use Rattle.nft_reader.specs.declared.compared.Fact.{Fact}
@@ -88,9 +88,14 @@ interface_met assumed which manner values =
 abbrev pub is_state_value : Json → Bool
 is_state_value value = is_some (state_named (word_of value))
 
+-- the number of a state, if there is one, is this one
+abbrev pub is_state : ℕ → Option ℕ → Bool
+is_state number None = false
+is_state number (Some said) = said == number
+
 -- a value is the state of the number
 abbrev pub is_that_value : ℕ → Json → Bool
-is_that_value number value = is_number number (state_named (word_of value))
+is_that_value number value = is_state number (state_named (word_of value))
 
 -- the states of the right side: of a list after the tests of bits, and else of a set
 abbrev pub state_values : Operator → Json → Option (List Json)

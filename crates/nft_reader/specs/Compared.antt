@@ -9,9 +9,9 @@ use Rattle.json.specs.Find.{get}
 use Rattle.json.specs.Value.{value_view}
 use Rattle.field_defs.specs.declared.field.Family.{Family}
 use Rattle.field_defs.specs.declared.field.Family.TheVariants as family
-use Rattle.iptables_reader.specs.declared.packets.End.TheVariants as end
-use Rattle.iptables_reader.specs.declared.packets.Field.{Field}
-use Rattle.iptables_reader.specs.declared.packets.Field.TheVariants as field
+use Rattle.list_packets.specs.declared.packets.End.TheVariants as end
+use Rattle.list_packets.specs.declared.packets.Field.{Field}
+use Rattle.list_packets.specs.declared.packets.Field.TheVariants as field
 use Rattle.nft_reader.specs.declared.compared.Holders.{Holders}
 use Rattle.nft_reader.specs.declared.compared.Holders.TheVariants as holders
 use Rattle.nft_reader.specs.declared.compared.Left.{Left}

@@ -4,8 +4,8 @@ use Rattle.std.specs.Prelude.{ℕ, ◌==◌, Bool, not, ◌&&◌, ◌||◌, List
 use Rattle.std.specs.List.{list_all, list_any}
 use Rattle.field_defs.specs.declared.field.Family.{Family}
 use Rattle.list_chains.specs.declared.span.Span.{Span}
-use Rattle.iptables_reader.specs.declared.packets.Packets.{Packets}
-use Rattle.iptables_reader.specs.Packets.{CaughtBoxes, all_caught, with_boxes}
+use Rattle.list_packets.specs.declared.packets.Packets.{Packets}
+use Rattle.list_packets.specs.Packets.{CaughtBoxes, all_caught, with_boxes}
 
 -- a comparison: its boxes, and whether packets lie in none of them
 pub record ComparedBoxes : Type 0 where

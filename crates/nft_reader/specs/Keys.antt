@@ -8,9 +8,9 @@ use Rattle.json.specs.Json.{Json}
 use Rattle.nft_reader.specs.declared.fault.RuleKind.{RuleKind}
 use Rattle.nft_reader.specs.declared.fault.RuleKind.TheVariants as kind
 use Rattle.field_defs.specs.declared.field.Family.{Family}
-use Rattle.iptables_reader.specs.declared.packets.Field.TheVariants as field
-use Rattle.iptables_reader.specs.declared.packets.Packets.{Packets}
-use Rattle.iptables_reader.specs.Packets.{all_packets, meets, with_span}
+use Rattle.list_packets.specs.declared.packets.Field.TheVariants as field
+use Rattle.list_packets.specs.declared.packets.Packets.{Packets}
+use Rattle.list_packets.specs.Packets.{all_packets, meets, with_span}
 use Rattle.nft_reader.specs.declared.compared.Holders.{Holders}
 use Rattle.nft_reader.specs.declared.compared.Holders.TheVariants as holders
 use Rattle.nft_reader.specs.declared.compared.Left.{Left}

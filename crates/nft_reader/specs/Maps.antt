@@ -10,9 +10,9 @@ use Rattle.json.specs.Json.{Json}
 use Rattle.json.specs.Find.{as_str, get}
 use Rattle.field_defs.specs.declared.field.Family.{Family}
 use Rattle.list_chains.specs.declared.span.Span.{Span}
-use Rattle.iptables_reader.specs.declared.packets.Packets.{Packets}
-use Rattle.iptables_reader.specs.declared.values.AddressSpans.{AddressSpans}
-use Rattle.iptables_reader.specs.Packets.{all_packets, with_boxes}
+use Rattle.list_packets.specs.declared.packets.Packets.{Packets}
+use Rattle.list_packets.specs.declared.values.AddressSpans.{AddressSpans}
+use Rattle.list_packets.specs.Packets.{all_packets, with_boxes}
 use Rattle.nft_reader.specs.declared.compared.Left.{Left}
 use Rattle.nft_reader.specs.declared.compared.Left.TheVariants as left
 use Rattle.nft_reader.specs.declared.fault.RuleKind.{RuleKind}

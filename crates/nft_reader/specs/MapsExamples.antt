@@ -4,7 +4,7 @@ use Rattle.std.specs.Prelude.{◌≡◌, ℕ, ◌++◌, List, [], ◌∷◌, cod
 use Rattle.std.specs.Fmt.{digits}
 use Rattle.json.proofs.OnLiterals.{json_on_literals}
 use Rattle.json.specs.Json.{document}
-use Rattle.iptables_reader.specs.Tables.{assumed_state_table}
+use Rattle.list_packets.specs.Assumed.{assumed_state_table}
 use Rattle.list_chains.specs.declared.chain.Target.{Target}
 use Rattle.list_chains.specs.declared.chain.Target.TheVariants.{Decide, Return, Jump}
 use Rattle.list_chains.specs.declared.span.Span.{Span}

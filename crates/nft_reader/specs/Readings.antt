@@ -8,8 +8,8 @@ use Rattle.std.specs.List.{list_any}
 use Rattle.std.specs.Str.{bytes_eq}
 use Rattle.json.specs.Json.{Json}
 use Rattle.field_defs.specs.declared.field.Family.{Family}
-use Rattle.iptables_reader.specs.declared.packets.Packets.{Packets}
-use Rattle.iptables_reader.specs.Packets.{CaughtBoxes, all_caught}
+use Rattle.list_packets.specs.declared.packets.Packets.{Packets}
+use Rattle.list_packets.specs.Packets.{CaughtBoxes, all_caught}
 use Rattle.nft_reader.specs.declared.fault.RuleKind.{RuleKind}
 use Rattle.nft_reader.specs.declared.fault.RuleKind.TheVariants as kind
 use Rattle.nft_reader.specs.declared.known.Branch.{Branch}

@@ -13,7 +13,7 @@ use Rattle.json.specs.Json.{Json, document}
 use Rattle.json.specs.Find.{get}
 use Rattle.json.specs.Value.{value_view}
 use Rattle.field_defs.specs.declared.field.Family.{Family}
-use Rattle.iptables_reader.specs.Packets.{rules_of_caught}
+use Rattle.list_packets.specs.Packets.{rules_of_caught}
 use Rattle.list_chains.specs.declared.span.Span.{Span}
 use Rattle.list_chains.specs.Chains.{ListRule}
 use Rattle.nft_reader.specs.declared.fault.RuleKind.{RuleKind}

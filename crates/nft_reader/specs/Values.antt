@@ -9,15 +9,15 @@ use Rattle.json.specs.Json.{Json}
 use Rattle.json.specs.Find.{as_str, get}
 use Rattle.field_defs.specs.declared.field.Family.{Family}
 use Rattle.list_chains.specs.declared.span.Span.{Span}
-use Rattle.iptables_reader.specs.declared.packets.Field.{Field}
-use Rattle.iptables_reader.specs.declared.packets.Field.TheVariants as field
-use Rattle.iptables_reader.specs.declared.packets.Packets.{Packets}
-use Rattle.iptables_reader.specs.declared.parts.AddressSet.{AddressSet}
-use Rattle.iptables_reader.specs.declared.parts.AddressSet.TheVariants as set
-use Rattle.iptables_reader.specs.AddressSpans.{set_spans}
-use Rattle.iptables_reader.specs.Packets.{with_end, with_span}
-use Rattle.iptables_reader.specs.Values.{address_alone, address_of, filled_range, most_bits}
-use Rattle.iptables_reader.specs.Values.{spans_of_address}
+use Rattle.list_packets.specs.declared.packets.Field.{Field}
+use Rattle.list_packets.specs.declared.packets.Field.TheVariants as field
+use Rattle.list_packets.specs.declared.packets.Packets.{Packets}
+use Rattle.list_packets.specs.declared.address_sets.AddressSet.{AddressSet}
+use Rattle.list_packets.specs.declared.address_sets.AddressSet.TheVariants as set
+use Rattle.list_packets.specs.AddressSets.{set_spans}
+use Rattle.list_packets.specs.Packets.{with_end, with_span}
+use Rattle.list_packets.specs.Values.{address_alone, address_of, filled_range, most_bits}
+use Rattle.list_packets.specs.Values.{spans_of_address}
 use Rattle.nft_reader.specs.declared.compared.Part.{Part}
 use Rattle.nft_reader.specs.declared.compared.Part.TheVariants as part
 use Rattle.nft_reader.specs.declared.fault.RuleKind.{RuleKind}

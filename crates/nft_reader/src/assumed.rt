@@ -6,7 +6,7 @@ ghost use Rattle.std.specs.List.{list_all, list_any};
 ghost use Rattle.json.specs.Value.{value_view as view};
 ghost use Rattle.nft_reader.specs.Assumed as assumed;
 ghost use Rattle.nft_reader.specs.Shapes.{all_seen, text_seen};
-ghost use Rattle.iptables_reader.specs.Assumed.{is_number, state_named};
+ghost use Rattle.list_packets.specs.Assumed.{state_named};
 
 use crate::compared::{Fact, Naming, Operator, Way, is_ip4, is_of};
 use crate::fault::RuleKind;
@@ -14,8 +14,8 @@ use crate::known::Known;
 use crate::sets::at_name;
 use crate::shapes::listed_values;
 use crate::values::elements_of;
-use iptables_reader::{assumed_state, is_interface, meets_interface, state_named, value_in};
 use json::Value;
+use list_packets::{assumed_state, is_interface, meets_interface, state_named, value_in};
 
 /// What stands at the end of a name for whatever follows there.
 const STAR: u8 = b'*';
@@ -110,7 +110,7 @@ pub(crate) fn state_values<'v, 'a>(
 
 /// Whether a word is the state of the number.
 fn is_that_state(number: u64, word: &[u8]) -> bool
-    ensures { result ≡ is_number number (state_named word.now) }
+    ensures { result ≡ assumed.is_state number (state_named word.now) }
 {
     match state_named(word) {
         Some(said) => said == number,

@@ -9,8 +9,8 @@ use crate::fault::{RuleFault, StartFault};
 use crate::known::{Branch, Outcome};
 use crate::reading::Said;
 use field_defs::Family;
-use iptables_reader::put_rules;
 use list_chains::{Chain, ChainRule};
+use list_packets::put_rules;
 use std::alloc::{AllocError, Global};
 use std::marker::Model;
 

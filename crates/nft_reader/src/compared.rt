@@ -8,8 +8,8 @@ ghost use Rattle.nft_reader.specs.Shapes.{text_seen};
 use crate::shapes::{len_of, only, text_in};
 use crate::values::ported_named;
 use field_defs::Family;
-use iptables_reader::{End, Field};
 use json::Value;
+use list_packets::{End, Field};
 
 /// The left side of a comparison.
 #[derive(Clone, Copy)]

@@ -4,8 +4,8 @@ ghost use Rattle.std.specs.Prelude.{◌≡◌, IfOk};
 ghost use Rattle.nft_reader.specs.Comparisons as comparisons;
 
 use field_defs::Family;
-use iptables_reader::{Caught, Packets};
 use list_chains::Span;
+use list_packets::{Caught, Packets};
 use std::alloc::{AllocError, Global};
 use std::marker::Model;
 

@@ -14,9 +14,9 @@ use crate::known::Known;
 use crate::shapes::{items_of, said_by};
 use crate::values::{bare_element, part_boxes};
 use field_defs::Family;
-use iptables_reader::{Caught, Packets, all_packets};
 use json::Value;
 use list_chains::Span;
+use list_packets::{Caught, Packets, all_packets};
 use std::alloc::AllocError;
 
 /// Packets of a protocol.
@@ -53,7 +53,7 @@ fn concat_of<'v, 'a>(value: &'v Value<'a>) -> Option<&'v [Value<'a>]>
 impl<'k, 's, 'a> Known<'k, 's, 'a> {
     ghost use Rattle.std.specs.Prelude.{◌≡◌, ◌∷◌, [], length, map, IfOk};
     ghost use Rattle.json.specs.Value.{value_view as view};
-    ghost use Rattle.iptables_reader.specs.Packets.{all_packets};
+    ghost use Rattle.list_packets.specs.Packets.{all_packets};
     ghost use Rattle.nft_reader.specs.Known.{asked_of, known_of, question_of};
     ghost use Rattle.nft_reader.specs.Keys as keyed;
     ghost use Rattle.nft_reader.specs.Compared.{sides_seen};

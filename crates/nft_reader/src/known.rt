@@ -11,9 +11,9 @@ use crate::sets::{NamedSet, at_name};
 use crate::shapes::{len_of, text_in};
 use crate::values::elements_of;
 use field_defs::Family;
-use iptables_reader::Caught;
 use json::Value;
 use list_chains::Target;
+use list_packets::Caught;
 use std::alloc::Global;
 
 /// What the answer of a rule is.

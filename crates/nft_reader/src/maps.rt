@@ -12,9 +12,9 @@ use crate::keys::held_packets;
 use crate::known::{Branch, Known, Outcome};
 use crate::shapes::{len_of, only, pair_of};
 use crate::values::bare_element;
-use iptables_reader::{AddressSpans, Packets, all_packets};
 use json::Value;
 use list_chains::Span;
+use list_packets::{AddressSpans, Packets, all_packets};
 use std::alloc::AllocError;
 use std::marker::Model;
 

@@ -11,9 +11,9 @@ use crate::fault::{RuleKind, Stop};
 use crate::keys::protocol_packets;
 use crate::known::{Branch, Known, Outcome};
 use crate::shapes::{len_of, only, text_in};
-use iptables_reader::{Caught, Packets};
 use json::Value;
 use list_chains::Target;
+use list_packets::{Caught, Packets};
 use std::alloc::AllocError;
 use std::marker::Model;
 

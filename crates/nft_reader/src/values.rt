@@ -2,8 +2,8 @@
 //! these; and the packets of each.
 
 ghost use Rattle.std.specs.Prelude.{◌≡◌, ◌++◌, ◌≤◌, [], map, option_map, OnOk};
-ghost use Rattle.iptables_reader.specs.AddressSpans.{set_spans};
-ghost use Rattle.iptables_reader.specs.Packets.{with_end};
+ghost use Rattle.list_packets.specs.AddressSets.{set_spans};
+ghost use Rattle.list_packets.specs.Packets.{with_end};
 ghost use Rattle.json.specs.Value.{value_view as view};
 ghost use Rattle.nft_reader.specs.Shapes.{all_seen, seen};
 ghost use Rattle.nft_reader.specs.Stops.{GivesItems, Leaves};
@@ -15,12 +15,12 @@ use crate::shapes::{
     items_of, len_of, number_in, number_of, only, pair_of, present, said_by, text_in,
 };
 use field_defs::Family;
-use iptables_reader::{
+use json::Value;
+use list_chains::Span;
+use list_packets::{
     AddressSet, End, Field, Packets, address, address_alone, filled_range, most_bits, put_ends,
     put_set, put_spans, spans_of_address,
 };
-use json::Value;
-use list_chains::Span;
 use std::alloc::{AllocError, Global};
 
 /// The greatest port.

@@ -1,22 +1,21 @@
--- A faulty word makes the whole line faulty.
-use Rattle.std.proofs.Common.{◌≡◌, Ok, Err, sym, ap, ◌∙◌, rules}
-use Rattle.text_scan.specs.Parts.{words_of}
-use Rattle.iptables_reader.specs.Parts.{first_reading}
-use Rattle.iptables_reader.specs.Reading.{with_words}
-use Rattle.iptables_reader.proofs.Folds.{with_words-fault}
+-- The words that are left after an option.
+use Rattle.std.proofs.Common.{◌≡◌, length, ap, ◌∙◌, sym, subst, arith}
+use Rattle.iptables_reader.specs.Reading.{with_options}
+use Rattle.iptables_reader.specs.Stops.{◌>>=◌}
+use Rattle.iptables_reader.proofs.JoinedWords.{has_word, option_took, option_then}
 use Rattle.iptables_reader.proofs.reading.options.Goals as goal
 
-pub returns-in_err-reading : goal.returns-in_err-reading
-returns-in_err-reading c =
-    let family = c.args.family in
-    let assumed = c.args.assumed.now in
-    let chains = c.args.chains.now in
-    let kind = c.in_err-reading.field-0.0 in
-    let rest = words_of c.in-Some.rest.now in
-    let first = first_reading c.args.chain.now in
-    let read : with_words family assumed chains (Ok first) (words_of c.args.text.now) ≡ Err kind =
+pub loop-word-smaller : goal.loop-word-smaller
+loop-word-smaller c =
+    let took = option_took c.args.setting.now c.loop-word.reading c.in-Some.word.now c.next.new.self _
+    c.in_ok-take_option.ensures in
+    let fewer = has_word took in
+    omega (arith, fewer, ap length c.in-Some.ensures)
+
+pub loop-word-preserved : goal.loop-word-preserved
+loop-word-preserved c =
     c.loop-word.invariant
-    ∙ ap (λ words. with_words family assumed chains (Ok c.loop-word.reading) words) c.in-Some.ensures.words
-    ∙ ap (λ found. with_words family assumed chains found rest) (sym c.in_err-reading.ensures)
-    ∙ with_words-fault family assumed chains kind rest in
-    rw read (search rules)
+    ∙ ap (λ words. with_options words c.args.setting.now c.loop-word.reading words) c.in-Some.ensures
+    ∙ option_then c.args.setting.now c.loop-word.reading c.in-Some.word.now c.next.new.self
+    ∙ ap (λ found. found >>= λ read. with_options read.words c.args.setting.now read.reading read.words)
+    c.in_ok-take_option.ensures

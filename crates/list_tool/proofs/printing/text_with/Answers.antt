@@ -1,5 +1,5 @@
 use Rattle.std.proofs.Common.{◌≡◌}
-use Rattle.iptables_reader.specs.declared.table.Answers.TheVariants.{Line}
+use Rattle.iptables_reader.specs.declared.answers.Answers.TheVariants.{Line}
 use Rattle.list_tool.specs.Requests.{request_of}
 use Rattle.list_tool.proofs.Asked.{text_ends}
 use Rattle.list_tool.proofs.printing.text_with.Goals as goal

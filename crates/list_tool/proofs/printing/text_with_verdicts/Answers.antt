@@ -1,4 +1,4 @@
-use Rattle.iptables_reader.specs.declared.table.Answers.TheVariants.{Verdict}
+use Rattle.iptables_reader.specs.declared.answers.Answers.TheVariants.{Verdict}
 use Rattle.list_tool.specs.Requests.{request_of}
 use Rattle.list_tool.proofs.Asked.{refused_second, text_ends}
 use Rattle.list_tool.proofs.printing.text_with_verdicts.Goals as goal

@@ -1,7 +1,7 @@
 -- The parts that were read so far.
 use Rattle.std.proofs.Common.{◌≡◌, ◌∷◌, [], map, drop}
 use Rattle.json.specs.Value.{value_view}
-use Rattle.iptables_reader.specs.Packets.{all_packets}
+use Rattle.list_packets.specs.Packets.{all_packets}
 use Rattle.nft_reader.specs.Keys.{parts_boxes}
 use Rattle.nft_reader.specs.Known.{question_of}
 use Rattle.nft_reader.proofs.known.Known.parts_boxes.Given as goal

@@ -1,9 +1,0 @@
--- The boxes so far.
-use Rattle.std.proofs.Common.{[], map}
-use Rattle.list_lemmas.proofs.Loops.{Joined}
-use Rattle.iptables_reader.specs.Packets.{meet}
-use Rattle.iptables_reader.proofs.caught.meets.Given as goal
-
--- there are those of each box so far
-abbrev pub invariant-loop-one : goal.invariant-loop-one
-invariant-loop-one l = Joined (λ one. map (meet one) l.others) l.ones l.one-index [] l.boxes.items

@@ -1,9 +1,0 @@
--- The boxes so far.
-use Rattle.std.proofs.Common.{[]}
-use Rattle.list_lemmas.proofs.Loops.{Mapped}
-use Rattle.iptables_reader.specs.Packets.{spans_of}
-use Rattle.iptables_reader.proofs.packets.boxes_of.Given as goal
-
--- there is one for each of the packets so far
-abbrev pub invariant-loop-packets : goal.invariant-loop-packets
-invariant-loop-packets l = Mapped (spans_of l.family) l.all l.packets-index [] l.boxes.items
