@@ -26,7 +26,8 @@ refused_first said next stopped.OutOfMemory is = tt
 -- where a part of a list is refused, the list is
 pub refused_parts : (said : Result (List Span) LineKind) (parts : List (List ℕ)) (stop : Stop) → Refuses said stop →
     Refuses (with_parts said parts) stop
-refused_parts said parts (stopped.Faulty kind) is = ap (λ found. with_parts found parts) is ∙ with_parts-fault kind parts
+refused_parts said parts (stopped.Faulty kind) is =
+    ap (λ found. with_parts found parts) is ∙ with_parts-fault kind parts
 refused_parts said parts stopped.OutOfMemory is = tt
 
 -- after a word, one word less is left of so many

@@ -54,7 +54,8 @@ ended quoted part words rest closed same = record {
   parts = part ∷ [];
   joined = ap (λ ws. part ∷ ws) same;
   read = λ count some.
-      cond-false (count == 0) None (after_quotes count (if quoted then quotes_after false part else first_quotes part)) some
+      cond-false (count == 0) None
+        (after_quotes count (if quoted then quotes_after false part else first_quotes part)) some
       ∙ ap (after_quotes count) closed;
 }
 
@@ -67,7 +68,8 @@ opened quoted part words rest unended more = record {
   joined = ap (λ ws. part ∷ ws) more.joined;
   read = λ count some.
       ap (λ from. after_parts from more.parts)
-      (cond-false (count == 0) None (after_quotes count (if quoted then quotes_after false part else first_quotes part)) some
+      (cond-false (count == 0) None
+        (after_quotes count (if quoted then quotes_after false part else first_quotes part)) some
       ∙ ap (after_quotes count) unended) ∙ more.read count some;
 }
 

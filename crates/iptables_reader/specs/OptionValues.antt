@@ -211,7 +211,8 @@ are_known changed word =
 abbrev pub with_states : RuleSetting → Reading → Bool → OptionValue → Result Reading LineKind
 with_states setting reading changed value =
     unless (not (are_known changed value.word)) fault.BadState
-    (Ok (if has_state changed_state (parts_of comma value.word) then with_cause fault.CantSay reading
+    (Ok (if has_state changed_state (parts_of comma value.word)
+    then with_cause fault.CantSay reading
     else with_met value.negated (state_met setting.assumed value.word) fault.NeedsState reading))
 
 -- a type of messages: any, or no rule file says it

@@ -138,7 +138,8 @@ passed_over negated reading name =
 -- an option by its name: one that is read, or one of a table
 abbrev pub with_found : RuleSetting → Bool → Reading → List ℕ → List (List ℕ) → Option Row →
     Result OptionRead LineKind
-with_found setting negated reading name words (Some row) = with_row setting negated reading row words
+with_found setting negated reading name words (Some row) =
+    with_row setting negated reading row words
 with_found setting negated reading name words None = passed_over negated reading name >>= λ passed.
     after_words passed.count words >>= λ rest.
     Ok (record { reading = passed.reading; words = rest })

@@ -34,7 +34,8 @@ impl Reading {
         option: RuleOption,
         value: Value,
     ) -> Result<(), Stop>
-        ensures { Makes (values.with_value setting.now self.old option value.entry) self.new result }
+        ensures { Makes (values.with_value setting.now self.old option value.entry)
+            self.new result }
     {
         match option {
             RuleOption::Network(end) => self.take_network(setting, end, value),
@@ -166,7 +167,8 @@ impl Reading {
     /// An interface, as it is assumed. Packets of OUTPUT come by none, and those of INPUT leave by
     /// none.
     fn take_interface(&mut self, setting: &Setting, end: End, value: Value) -> Result<(), Stop>
-        ensures { Makes (values.with_interface setting.now self.old end value.entry) self.new result }
+        ensures { Makes (values.with_interface setting.now self.old end value.entry)
+            self.new result }
     {
         if lacks_interface(setting.chain, end) || !is_interface(b'+', value.word) {
             return Err(Stop::Faulty(LineKind::BadInterface));
@@ -178,7 +180,8 @@ impl Reading {
 
     /// States of a connection, as it is assumed.
     fn take_states(&mut self, setting: &Setting, changed: bool, value: Value) -> Result<(), Stop>
-        ensures { Makes (values.with_states setting.now self.old changed value.entry) self.new result }
+        ensures { Makes (values.with_states setting.now self.old changed value.entry)
+            self.new result }
     {
         if !are_known(changed, value.word) {
             return Err(Stop::Faulty(LineKind::BadState));

@@ -189,8 +189,8 @@ impl Reading {
         }
     }
 
-    /// An option of a table: one of the last match, which no rule file says, or of the target, which
-    /// isn't negated. It has so many words.
+    /// An option of a table: one of the last match, which no rule file says, or of the target,
+    /// which isn't negated. It has so many words.
     fn pass_over(&mut self, negated: bool, name: &[u8]) -> Result<u64, Stop>
         ensures { MatchResult result
             (λ count. reading.passed_over negated self.old name.now

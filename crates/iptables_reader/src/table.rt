@@ -101,8 +101,10 @@ impl<'a> Table<'a> {
 
     /// The chains, where the table has ended. Else its last line is at fault.
     fn ended(self) -> Result<Vec<SavedChain>, LineFault>
-        ensures chains { IfOk result (λ chains. table.ended self.entry self.entry.stage ≡ Ok chains.items) }
-        ensures fault { IfErr result (λ fault. table.ended self.entry self.entry.stage ≡ Err fault) }
+        ensures chains { IfOk result (λ chains.
+            table.ended self.entry self.entry.stage ≡ Ok chains.items) }
+        ensures fault { IfErr result (λ fault.
+            table.ended self.entry self.entry.stage ≡ Err fault) }
     {
         match self.stage {
             Stage::After => Ok(self.chains.into_chains()),
@@ -234,8 +236,8 @@ fn begins(byte: u8, line: &[u8]) -> bool
 /// meets. Whatever else stands in any rule is a fault.
 ///
 /// `assumed` is what is assumed of all packets, as `in=eth0,out=eth1,state=new,local=10.0.0.1`, or
-/// empty; [`is_assumption`](list_packets::is_assumption) tells whether a text is one. If no chain has the
-/// name, all of them are given.
+/// empty; [`is_assumption`](list_packets::is_assumption) tells whether a text is one. If no chain
+/// has the name, all of them are given.
 ///
 /// `Line` comes exactly where the file is too long (line 0), some line is faulty (the first one,
 /// with its first fault), the table doesn't end (the last line), or no rule file says a line that
