@@ -1,5 +1,5 @@
 -- The words of a rule: whole options, one after the other.
-use Rattle.std.proofs.Common.{◌≡◌, ℕ, zero, suc, ◌+◌, ◌-◌, ◌≤◌, ◌<◌, Bool, true, false, not, ◌&&◌, ◌||◌, List, [], ◌∷◌, ◌++◌}
+use Rattle.std.proofs.Common.{◌≡◌, ℕ, zero, suc, ◌-◌, ◌≤◌, ◌<◌, Bool, true, false, not, ◌&&◌, List, [], ◌∷◌, ◌++◌}
 use Rattle.std.proofs.Common.{length, Some, None, Option, Ok, Err, Result, if◌then◌else◌, ◌==◌}
 use Rattle.std.proofs.Common.{refl, sym, ap, ◌∙◌, subst, append_assoc, length-append, arith, inl, inr}
 use Rattle.std.proofs.lemmas.Bool.{cases_Bool, cond-true, cond-false, eqb-true}
@@ -18,7 +18,7 @@ use Rattle.iptables_reader.specs.declared.fault.LineKind.{LineKind}
 use Rattle.iptables_reader.specs.declared.fault.LineKind.TheVariants.{CantSay, BadNegation, OptionTwice}
 use Rattle.iptables_reader.specs.Chains.{RuleSetting}
 use Rattle.iptables_reader.specs.Options.{Row, any_option, own_option}
-use Rattle.iptables_reader.specs.OptionValues.{unless, with_cause, with_value, OptionValue}
+use Rattle.iptables_reader.specs.OptionValues.{unless, with_cause, with_value}
 use Rattle.iptables_reader.specs.Quotes.{after_open, after_word, after_words, by_quotes, first_quotes, quotes_after}
 use Rattle.iptables_reader.specs.Reading as reading
 use Rattle.iptables_reader.specs.Reading.{OptionRead, PassedOver, with_options, with_option, with_given, first_reading, finished}
@@ -55,7 +55,7 @@ ended quoted part words rest closed same = record {
   joined = ap (λ ws. part ∷ ws) same;
   read = λ count some.
       cond-false (count == 0) None
-        (after_quotes count (if quoted then quotes_after false part else first_quotes part)) some
+      (after_quotes count (if quoted then quotes_after false part else first_quotes part)) some
       ∙ ap (after_quotes count) closed;
 }
 
@@ -69,7 +69,7 @@ opened quoted part words rest unended more = record {
   read = λ count some.
       ap (λ from. after_parts from more.parts)
       (cond-false (count == 0) None
-        (after_quotes count (if quoted then quotes_after false part else first_quotes part)) some
+      (after_quotes count (if quoted then quotes_after false part else first_quotes part)) some
       ∙ ap (after_quotes count) unended) ∙ more.read count some;
 }
 

@@ -1,6 +1,6 @@
 -- The lines of a list that were read, and what those that are left make of the table.
 use Rattle.std.proofs.Common.{◌≡◌, ℕ, ◌+◌, ◌<◌, ◌≤◌, List, [], ◌∷◌, length, Result, Ok, Err, false, nat_lt}
-use Rattle.std.proofs.Common.{refl, sym, ap, ◌∙◌, arith}
+use Rattle.std.proofs.Common.{refl, ap, ◌∙◌, arith}
 use Rattle.text_scan.specs.Parts.{lines_of}
 use Rattle.iptables_reader.specs.declared.fault.LineKind.{LineKind}
 use Rattle.iptables_reader.specs.declared.answers.Asked.{Asked}

@@ -35,7 +35,7 @@ use Rattle.iptables_reader.specs.declared.reading.Act.TheVariants as act
 use Rattle.iptables_reader.specs.declared.reading.Reading.{Reading}
 use Rattle.iptables_reader.specs.declared.reading.Rows.{Rows}
 use Rattle.iptables_reader.specs.declared.reading.Rows.TheVariants as rows
-use Rattle.iptables_reader.specs.Chains.{ListedChain, RuleSetting, place_of}
+use Rattle.iptables_reader.specs.Chains.{RuleSetting, place_of}
 use Rattle.iptables_reader.specs.Options.{match_named, verdict_named}
 use Rattle.iptables_reader.specs.Stops.{◌>>=◌, taken}
 use Rattle.iptables_reader.specs.Tables.{answer_table, match_table, owner_in, target_table}

@@ -2,8 +2,8 @@
 -- iptables-extensions(8)). An option is a name, perhaps after `!`, and its value, or as many words
 -- as it has. It is known once its match or its target is named. What is no option that is known is
 -- a fault.
-use Rattle.std.specs.Prelude.{ℕ, ◌+◌, ◌-◌, ◌==◌, Bool, true, false, not, ◌&&◌, ◌||◌, bit_and, bit_or}
-use Rattle.std.specs.Prelude.{if◌then◌else◌, codes, List, [], ◌∷◌, length, Option, Some, None}
+use Rattle.std.specs.Prelude.{ℕ, ◌==◌, Bool, true, false, not, ◌&&◌, ◌||◌, bit_and, bit_or}
+use Rattle.std.specs.Prelude.{if◌then◌else◌, codes, List, [], ◌∷◌, Option, Some, None}
 use Rattle.std.specs.Prelude.{Result, Ok, Err}
 use Rattle.std.specs.Str.{bytes_eq}
 use Rattle.field_defs.specs.declared.field.Family.{Family}

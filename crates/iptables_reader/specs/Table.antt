@@ -6,10 +6,8 @@ use Rattle.std.specs.Prelude.{drop, slice_index_or, if◌then◌else◌, codes, 
 use Rattle.std.specs.Prelude.{Option, Some, None, Result, Ok, Err}
 use Rattle.std.specs.Str.{bytes_eq}
 use Rattle.text_scan.specs.Parts.{lines_of, words_of}
-use Rattle.list_chains.specs.declared.span.Span.{Span}
 use Rattle.list_chains.specs.declared.chain.Target.{Target}
 use Rattle.list_chains.specs.declared.chain.Target.TheVariants as target
-use Rattle.list_chains.specs.Chains.{ListRule}
 use Rattle.iptables_reader.specs.declared.options.Verdict.{Verdict}
 use Rattle.iptables_reader.specs.declared.options.Verdict.TheVariants as verdict
 use Rattle.iptables_reader.specs.declared.reading.Act.{Act}

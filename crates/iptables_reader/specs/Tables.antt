@@ -6,7 +6,7 @@ use Rattle.std.specs.Prelude.{List, [], ◌∷◌, ◌++◌, drop, Option, Some,
 use Rattle.std.specs.Str.{bytes_eq}
 use Rattle.text_scan.specs.Parts.{slash, cut_at, words_of}
 use Rattle.iptables_reader.specs.declared.tables.Listed.{Listed}
-use Rattle.list_packets.specs.Values.{first_of, plain_number}
+use Rattle.list_packets.specs.Values.{plain_number}
 use Rattle.field_defs.specs.declared.field.Family.{Family}
 use Rattle.field_defs.specs.declared.field.Family.TheVariants.{Ip4, Ip6}
 

@@ -11,7 +11,7 @@ use crate::fault::{LineKind, Stop};
 use crate::options::{Verdict, verdict_named};
 use crate::tables::{owner_in, targets};
 use crate::values::is_counters;
-use text_scan::next_word;
+use crate::words::{Words, is};
 
 /// The name of the chain that a text declares, and the word of its policy.
 pub(crate) fn declaration(text: &[u8]) -> Result<(&[u8], &[u8]), Stop>
@@ -20,10 +20,12 @@ pub(crate) fn declaration(text: &[u8]) -> Result<(&[u8], &[u8]), Stop>
         ≡ Ok (record { name = said.0.now; word = said.1.now }))
         (Refuses (table.declaration_of (words_of text.now))) }
 {
-    let (name, rest) = next_word(text).ok_or(Stop::Faulty(LineKind::BadChain))?;
-    let (word, rest) = next_word(rest).ok_or(Stop::Faulty(LineKind::BadChain))?;
-    let (counters, rest) = next_word(rest).ok_or(Stop::Faulty(LineKind::BadChain))?;
-    if next_word(rest).is_some() || !is_counters(counters) || is_target(name) {
+    let mut words = Words::of(text);
+    let said = (words.next(), words.next(), words.next(), words.next());
+    let (Some(name), Some(word), Some(counters), None) = said else {
+        return Err(Stop::Faulty(LineKind::BadChain));
+    };
+    if !is_counters(counters) || is_target(name) {
         return Err(Stop::Faulty(LineKind::BadChain));
     }
     Ok((name, word))
@@ -44,7 +46,7 @@ pub(crate) fn policy(
         let verdict = policy_named(word).ok_or(Stop::Faulty(LineKind::BadPolicy))?;
         return Ok(Some(answer_of(asked.answers, number, verdict)));
     }
-    if word != b"-".as_slice() {
+    if !is(word, b"-") {
         return Err(Stop::Faulty(LineKind::BadPolicy));
     }
     Ok(None)
@@ -61,16 +63,16 @@ fn is_target(word: &[u8]) -> bool
 fn is_base(name: &[u8]) -> bool
     ensures { result ≡ table.is_base name.now }
 {
-    name == b"INPUT".as_slice() || name == b"FORWARD".as_slice() || name == b"OUTPUT".as_slice()
+    is(name, b"INPUT") || is(name, b"FORWARD") || is(name, b"OUTPUT")
 }
 
 /// The verdict of a policy.
 fn policy_named(word: &[u8]) -> Option<Verdict>
     ensures { result ≡ table.policy_named word.now }
 {
-    if word == b"ACCEPT".as_slice() {
+    if is(word, b"ACCEPT") {
         Some(Verdict::Accept)
-    } else if word == b"DROP".as_slice() {
+    } else if is(word, b"DROP") {
         Some(Verdict::Drop)
     } else {
         None

@@ -8,6 +8,7 @@ ghost use Rattle.iptables_reader.specs.Stops.{Refuses};
 use crate::fault::{LineKind, Stop};
 use crate::named_chains::NamedChains;
 use crate::values::is_counters;
+use crate::words::is;
 use text_scan::next_word;
 
 /// The place of a rule's chain, and the text after its name.
@@ -18,15 +19,19 @@ pub(crate) fn head<'a>(chains: &NamedChains, line: &'a [u8]) -> Result<(usize, &
         (Refuses (head_of chains.now (words_of line.now))) }
     ensures within { IfOk result (λ read. read.0 < length chains.now) }
 {
-    let (word, rest) = next_word(after_counters(line)).ok_or(Stop::Faulty(LineKind::BadStart))?;
-    if word != b"-A".as_slice() {
+    let Some((word, rest)) = next_word(after_counters(line)) else {
+        return Err(Stop::Faulty(LineKind::BadStart));
+    };
+    if !is(word, b"-A") {
         return Err(Stop::Faulty(LineKind::BadStart));
     }
-    let (name, rest) = next_word(rest).ok_or(Stop::Faulty(LineKind::MissingWord))?;
-    let place = chains
-        .place_of(name, false)
-        .ok_or(Stop::Faulty(LineKind::NoChain))?;
-    Ok((place, rest))
+    let Some((name, rest)) = next_word(rest) else {
+        return Err(Stop::Faulty(LineKind::MissingWord));
+    };
+    match chains.place_of(name, false) {
+        Some(place) => Ok((place, rest)),
+        None => Err(Stop::Faulty(LineKind::NoChain)),
+    }
 }
 
 /// The text after the counters that a rule may begin with.

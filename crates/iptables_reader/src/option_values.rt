@@ -10,6 +10,7 @@ use crate::reading::{Act, Reading, Rows, Value};
 use crate::setting::Setting;
 use crate::tables::{answers, matches, owner_in, targets};
 use crate::values::{are_states, has_state, port_spans, protocol};
+use crate::words::is;
 use field_defs::Family;
 use list_chains::Span;
 use list_packets::{
@@ -47,7 +48,7 @@ impl Reading {
             RuleOption::Protocol => self.take_protocol(setting, value),
             RuleOption::States(changed) => self.take_states(setting, changed, value),
             RuleOption::Message => {
-                let met = (value.word == b"any".as_slice()).then_some(true);
+                let met = is(value.word, b"any").then_some(true);
                 self.take_met(value.negated, met, LineKind::CantSay);
                 Ok(())
             }
@@ -307,11 +308,11 @@ fn is_whole(family: Family, spans: AddressSpans) -> bool
 fn set_of_type(family: Family, word: &[u8]) -> AddressSet
     ensures { result ≡ values.set_of_type family word.now }
 {
-    if word == b"LOCAL".as_slice() {
+    if is(word, b"LOCAL") {
         return AddressSet::Local;
     }
     match family {
-        Family::Ip4 if word == b"MULTICAST".as_slice() => AddressSet::Multicast,
+        Family::Ip4 if is(word, b"MULTICAST") => AddressSet::Multicast,
         Family::Ip4 | Family::Ip6 => AddressSet::Unsaid,
     }
 }
@@ -367,8 +368,8 @@ fn lacks_interface(chain: &[u8], end: End) -> bool
     ensures { result ≡ values.lacks_interface chain.now end }
 {
     match end {
-        End::Source => chain == b"OUTPUT".as_slice(),
-        End::Destination => chain == b"INPUT".as_slice(),
+        End::Source => is(chain, b"OUTPUT"),
+        End::Destination => is(chain, b"INPUT"),
     }
 }
 
@@ -436,7 +437,7 @@ fn rejects(act: Option<Act>) -> bool
 fn has_answer(family: Family, known: u64, word: &[u8]) -> bool
     ensures { result ≡ values.has_answer family known word.now }
 {
-    if word == b"tcp-reset".as_slice() {
+    if is(word, b"tcp-reset") {
         return known == 6;
     }
     owner_in(answers(family), word).is_some()

@@ -13,7 +13,7 @@ use crate::fault::{LineKind, Stop};
 use crate::options::{Match, Row, Verdict, any_option, own_option};
 use crate::setting::Setting;
 use crate::tables::{matches, option_in, targets};
-use crate::words::Words;
+use crate::words::{Words, is};
 use list_packets::Caught;
 use std::alloc::AllocError;
 use std::marker::Model;
@@ -130,11 +130,11 @@ impl Reading {
         ensures { Makes (reading.with_option setting.now self.old word.now words.old)
             (record { reading = self.new; words = words.new }) result }
     {
-        if word != b"!".as_slice() {
+        if !is(word, b"!") {
             return self.take_named(setting, false, word, words);
         }
         let name = words.required()?;
-        if name == b"!".as_slice() {
+        if is(name, b"!") {
             return Err(Stop::Faulty(LineKind::BadNegation));
         }
         self.take_named(setting, true, name, words)

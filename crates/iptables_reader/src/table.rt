@@ -15,6 +15,7 @@ use crate::named_chains::NamedChains;
 use crate::reached::unsaid_from;
 use crate::reading::options;
 use crate::setting::Setting;
+use crate::words::is;
 use list_chains::Chain;
 use std::alloc::{AllocError, Global};
 use std::marker::Model;
@@ -134,7 +135,7 @@ impl<'a> Table<'a> {
         ensures made { Makes (table.begun self.old line.now) self.new result }
         ensures number { self.new.number ≡ self.old.number }
     {
-        if line == b"*filter".as_slice() {
+        if is(line, b"*filter") {
             self.stage = Stage::Declaring;
             return Ok(());
         }
@@ -149,7 +150,7 @@ impl<'a> Table<'a> {
         ensures made { Makes (table.with_inside self.old line.now) self.new result }
         ensures number { self.new.number ≡ self.old.number }
     {
-        if line == b"COMMIT".as_slice() {
+        if is(line, b"COMMIT") {
             self.stage = Stage::After;
             return Ok(());
         }

@@ -1,11 +1,20 @@
 //! The words of a line, read from left to right.
 
+ghost use Rattle.std.specs.Prelude.{◌≡◌};
+ghost use Rattle.std.specs.Str.{bytes_eq};
 ghost use Rattle.text_scan.specs.Parts.{words_of};
 
 use crate::fault::{LineKind, Stop};
 use crate::quotes::{Quotes, first_quotes, quotes_after};
 use std::marker::Model;
 use text_scan::next_word;
+
+/// Whether a word is this one.
+pub(crate) fn is(word: &[u8], text: &[u8]) -> bool
+    ensures { result ≡ bytes_eq word.now text.now }
+{
+    word == text
+}
 
 /// The words that are left of a line. Contracts see the list of them.
 #[derive(Drop)]
@@ -41,7 +50,9 @@ impl<'a> Words<'a> {
             (self.old ≡ [])
             (λ word. self.old ≡ word.now ∷ self.new) }
     {
-        let (word, rest) = next_word(self.left)?;
+        let Some((word, rest)) = next_word(self.left) else {
+            return None;
+        };
         self.left = rest;
         Some(word)
     }

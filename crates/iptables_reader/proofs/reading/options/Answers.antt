@@ -1,5 +1,5 @@
 -- The words that are left after an option.
-use Rattle.std.proofs.Common.{◌≡◌, length, ap, ◌∙◌, sym, subst, arith}
+use Rattle.std.proofs.Common.{length, ap, ◌∙◌, arith}
 use Rattle.iptables_reader.specs.Reading.{with_options}
 use Rattle.iptables_reader.specs.Stops.{◌>>=◌}
 use Rattle.iptables_reader.proofs.JoinedWords.{has_word, option_took, option_then}

@@ -2,7 +2,7 @@
 use Rattle.std.proofs.Common.{◌≡◌, [], Ok, rules, ap, ◌∙◌, sym}
 use Rattle.text_scan.specs.Parts.{parts_of}
 use Rattle.list_packets.specs.Values.{comma}
-use Rattle.iptables_reader.specs.Values.{has_room, max_ports, with_part, with_parts}
+use Rattle.iptables_reader.specs.Values.{with_part, with_parts}
 use Rattle.iptables_reader.proofs.Folds.{refused_parts}
 use Rattle.iptables_reader.proofs.values.port_spans.Goals as goal
 

@@ -1,5 +1,5 @@
 -- A word that was passed over, and one that can't be.
-use Rattle.std.proofs.Common.{◌≡◌, ◌+◌, ◌-◌, Ok, rules, ap, ◌∙◌}
+use Rattle.std.proofs.Common.{◌+◌, ◌-◌, rules, ap, ◌∙◌}
 use Rattle.iptables_reader.specs.Quotes.{after_word, after_words}
 use Rattle.iptables_reader.specs.Stops.{◌>>=◌}
 use Rattle.iptables_reader.proofs.Folds.{one_less, refused_first}
