@@ -2,15 +2,15 @@
 -- of tables, chains, rules and others. The chains are those of inet, and by the family of packets
 -- of ip or ip6. A rule that no rule file says leads to no chain, so that a chain whose packets
 -- come to it isn't turned into rules.
-use Rattle.std.specs.Prelude.{ℕ, ◌+◌, ◌-◌, ◌^◌, ◌==◌, Bool, false, ◌&&◌, ◌||◌, not, nat_lt, is_some}
+use Rattle.std.specs.Prelude.{ℕ, ◌+◌, ◌-◌, ◌^◌, ◌==◌, Bool, true, false, ◌&&◌, ◌||◌, not, nat_lt, is_some}
 use Rattle.std.specs.Prelude.{if◌then◌else◌, codes, map, slice_set, slice_index_or, length}
 use Rattle.std.specs.Prelude.{List, [], ◌∷◌, ◌++◌, Option, Some, None, option_and_then}
 use Rattle.std.specs.Prelude.{Result, Ok, Err}
-use Rattle.std.specs.List.{flat_map}
+use Rattle.std.specs.List.{flat_map, list_all}
 use Rattle.std.specs.Option.{option_map}
 use Rattle.std.specs.Str.{bytes_eq, is_utf8}
 use Rattle.json.specs.Json.{Json, document}
-use Rattle.json.specs.Find.{get}
+use Rattle.json.specs.Find.{as_str, get}
 use Rattle.json.specs.Value.{value_view}
 use Rattle.field_defs.specs.declared.field.Family.{Family}
 use Rattle.list_packets.specs.Packets.{rules_of_caught}
@@ -35,7 +35,8 @@ use Rattle.nft_reader.specs.Compared.{own_name}
 use Rattle.nft_reader.specs.Known.{Question, Setting, answer_of, policy_named}
 use Rattle.nft_reader.specs.Readings.{SaidRule, with_statements}
 use Rattle.nft_reader.specs.Sets.{owner_in, sets_in}
-use Rattle.nft_reader.specs.Shapes.{is_one_of, items_in, items_of, len_of, number_in, only, present}
+use Rattle.nft_reader.specs.Shapes.{is_one_of, items_in, items_of, len_of, listed_values, number_in}
+use Rattle.nft_reader.specs.Shapes.{only, present}
 use Rattle.nft_reader.specs.Shapes.{said_by, text_in}
 use Rattle.nft_reader.specs.Stops.{◌>>=◌, folded, or_cause}
 
@@ -141,12 +142,13 @@ base_policy asked handle said =
     Ok (Some (answer_of asked handle verdict)))
     else Err object.BadChain
 
--- a chain has four members, and eight if packets come to it by themselves; it may have a comment
+-- a chain has four members, and eight if packets come to it by themselves, which may name devices;
+-- both may have a comment
 abbrev pub policy_of : Answers → ℕ → Json → Result (Option ℕ) ObjectKind
 policy_of asked handle said =
     if len_of said == 4 + present (codes "comment") said then Ok None
-    else (if len_of said == 8 + present (codes "comment") said then base_policy asked handle said
-    else Err object.BadChain)
+    else (if len_of said == 8 + present (codes "comment") said + present (codes "dev") said
+    then base_policy asked handle said else Err object.BadChain)
 
 -- the chains with one more, which didn't stand before and has no rules
 abbrev pub with_chain : Setting → List ListedChain → Json → Result (List ListedChain) ObjectKind
@@ -191,10 +193,26 @@ is_silent name =
     || bytes_eq name (codes "counter") || bytes_eq name (codes "quota")
     || bytes_eq name (codes "limit") || is_rare name
 
--- a table has no flags: one that is dormant has no packets
+-- a text is a flag that tells of a table's process, and not that the table is dormant
+abbrev pub is_awake_flag : Option (List ℕ) → Bool
+is_awake_flag None = false
+is_awake_flag (Some text) = is_one_of (codes "owner" ∷ codes "persist" ∷ []) text
+
+-- the flags of a table, if it has some, are such: a list, or one alone
+abbrev pub are_awake_flags : Option Json → Bool
+are_awake_flags None = true
+are_awake_flags (Some value) = list_all (λ flag. is_awake_flag (as_str flag)) (listed_values value)
+
+-- packets come to a table, as far as its flags tell; nft 1.0.6 writes the table's name in the place
+-- of each flag, so that a table that is named like a flag has to have none
+abbrev pub is_awake : Json → Bool
+is_awake said =
+    if is_awake_flag (text_in (codes "name") said) then not (is_some (get (codes "flags") said))
+    else are_awake_flags (get (codes "flags") said)
+
+-- a table isn't dormant
 abbrev pub with_table : List ListedChain → Json → Result (List ListedChain) ObjectKind
-with_table chains said =
-    if is_some (get (codes "flags") said) then Err object.BadTable else Ok chains
+with_table chains said = if is_awake said then Ok chains else Err object.BadTable
 
 -- an object of a family by its name; chains and rules of families that aren't read have no part
 abbrev pub with_part : Setting → List ListedChain → List ℕ → Json → List ℕ →

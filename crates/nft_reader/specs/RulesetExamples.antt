@@ -388,16 +388,27 @@ silent_objects : read
 unfolding json_on_literals folded
 silent_objects = refl
 
--- a table and chains with comments
+-- a table with flags that tell of its process, and chains with comments, one of them of a device
 comments_of_chains : read
     (codes "{\"nftables\": [{\"table\": {\"family\": \"inet\", \"name\": \"f\", \"handle\": 1, "
-    ++ codes "\"comment\": \"x\"}}, {\"chain\": {\"family\": \"inet\", \"table\": \"f\", \"name\": "
+    ++ codes "\"comment\": \"x\", \"flags\": [\"owner\", \"persist\"]}}, {\"chain\": {\"family\": "
+    ++ codes "\"inet\", \"table\": \"f\", \"name\": "
     ++ codes "\"web\", \"handle\": 1, \"comment\": \"x\"}}, {\"chain\": {\"family\": \"inet\", "
     ++ codes "\"table\": \"f\", \"name\": \"in\", \"handle\": 2, \"comment\": \"x\", \"type\": "
-    ++ codes "\"filter\", \"hook\": \"input\", \"prio\": 0, \"policy\": \"drop\"}}]}")
+    ++ codes "\"filter\", \"hook\": \"ingress\", \"dev\": \"eth0\", \"prio\": 0, "
+    ++ codes "\"policy\": \"drop\"}}]}")
     ≡ with_rules [] []
 unfolding json_on_literals folded
 comments_of_chains = refl
+
+-- a table that may be dormant is refused: nft 1.0.6 writes its name in the place of each flag
+a_table_that_may_sleep : read
+    (codes "{\"nftables\": [{\"table\": {\"family\": \"ip\", \"name\": \"f\", \"flags\": "
+    ++ codes "\"owner\"}}, {\"table\": {\"family\": \"ip\", \"name\": \"owner\", \"flags\": "
+    ++ codes "\"owner\"}}]}")
+    ≡ Err (record { object = 2; kind = object.BadTable })
+unfolding json_on_literals folded
+a_table_that_may_sleep = refl
 
 -- a chain with another member is refused, by its number
 a_chain_of_a_device : read

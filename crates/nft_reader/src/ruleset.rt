@@ -1,6 +1,8 @@
 //! A ruleset, object by object: its chains for the packets of a family.
 
-ghost use Rattle.std.specs.Prelude.{◌≡◌, length, map, nat_lt, IfErr, IfOk, Ok, option_map};
+ghost use Rattle.std.specs.Prelude.{◌≡◌, codes, length, map, nat_lt, IfErr, IfOk, Ok, option_map};
+ghost use Rattle.std.specs.List.{list_all};
+ghost use Rattle.json.specs.Find.{as_str, get};
 ghost use Rattle.json.specs.Value.{value_view as view};
 ghost use Rattle.nft_reader.specs.Ruleset as listed;
 ghost use Rattle.nft_reader.specs.Shapes.{all_seen, text_seen};
@@ -11,7 +13,9 @@ use crate::compared::own_name;
 use crate::fault::{NftFault, ObjectFault, ObjectKind, Stop};
 use crate::known::{Answers, Asked, Known, Setting, answer_of, policy_named};
 use crate::sets::{owner_in, sets_of};
-use crate::shapes::{items_in, items_of, len_of, number_in, only, present, said_by, text_in};
+use crate::shapes::{
+    items_in, items_of, len_of, listed_values, number_in, only, present, said_by, text_in,
+};
 use field_defs::Family;
 use json::{Error, Scratch, Value};
 use std::alloc::{AllocError, Global};
@@ -81,8 +85,8 @@ fn base_policy(answers: Answers, handle: u32, said: &Value<'_>) -> Result<Option
     }
 }
 
-/// The policy of a chain, which has eight members if packets come to it by themselves, and else
-/// four, and may have a comment.
+/// The policy of a chain, which has eight members if packets come to it by themselves, and may name
+/// devices, and else four. Both may have a comment.
 fn policy_of(answers: Answers, handle: u32, said: &Value<'_>) -> Result<Option<u32>, ObjectKind>
     ensures { result ≡ listed.policy_of answers handle (view said.now) }
 {
@@ -90,10 +94,48 @@ fn policy_of(answers: Answers, handle: u32, said: &Value<'_>) -> Result<Option<u
     if len_of(said) == 4 + comments {
         return Ok(None);
     }
-    if len_of(said) == 8 + comments {
+    if len_of(said) == 8 + comments + present("dev", said) {
         return base_policy(answers, handle, said);
     }
     Err(ObjectKind::BadChain)
+}
+
+/// Whether a text is a flag that tells of a table's process, and not that the table is dormant.
+fn is_awake_flag(text: Option<&str>) -> bool
+    ensures { result ≡ listed.is_awake_flag (option_map text_seen text.entry) }
+{
+    match text {
+        Some(text) => matches!(text, "owner" | "persist"),
+        None => false,
+    }
+}
+
+/// Whether all of some flags are such.
+fn are_awake_flags(flags: &[Value<'_>]) -> bool
+    ensures { result ≡ list_all (λ flag. listed.is_awake_flag (as_str (view flag))) flags.now }
+{
+    flags.iter().all(|flag| is_awake_flag(flag.as_str()))
+}
+
+/// Whether the flags of a table, if it has some, are such.
+fn has_awake_flags(said: &Value<'_>) -> bool
+    ensures { result ≡ listed.are_awake_flags (get (codes "flags") (view said.now)) }
+{
+    match said.get("flags") {
+        Some(flags) => are_awake_flags(listed_values(flags)),
+        None => true,
+    }
+}
+
+/// Whether packets come to a table, which isn't dormant as far as its flags and its name tell.
+fn is_awake(said: &Value<'_>) -> bool
+    ensures { result ≡ listed.is_awake (view said.now) }
+{
+    if is_awake_flag(text_in("name", said)) {
+        said.get("flags").is_none()
+    } else {
+        has_awake_flags(said)
+    }
 }
 
 /// Whether packets of a family come to tables of one of a name.
@@ -122,31 +164,24 @@ fn family_in<'a>(said: &Value<'a>) -> Option<&'a str>
 fn is_rare(name: &str) -> bool
     ensures { result ≡ listed.is_rare name.now }
 {
-    name == "secmark"
-        || name == "synproxy"
-        || name == "ct helper"
-        || name == "ct timeout"
-        || name == "ct expectation"
-        || name == "flowtable"
+    matches!(
+        name,
+        "secmark" | "synproxy" | "ct helper" | "ct timeout" | "ct expectation" | "flowtable"
+    )
 }
 
 /// Whether objects of tables of a name say nothing of packets by themselves.
 fn is_silent(name: &str) -> bool
     ensures { result ≡ listed.is_silent name.now }
 {
-    name == "set"
-        || name == "map"
-        || name == "counter"
-        || name == "quota"
-        || name == "limit"
-        || is_rare(name)
+    matches!(name, "set" | "map" | "counter" | "quota" | "limit") || is_rare(name)
 }
 
 /// Whether objects of a name have a family.
 fn has_family(name: &str) -> bool
     ensures { result ≡ listed.has_family name.now }
 {
-    name == "rule" || name == "chain" || name == "table" || is_silent(name)
+    matches!(name, "rule" | "chain" | "table") || is_silent(name)
 }
 
 impl<'k, 's, 'a> Setting<'k, 's, 'a> {
@@ -226,11 +261,10 @@ impl<'k, 's, 'a> Setting<'k, 's, 'a> {
             family.now) }
     {
         if name == "table" {
-            // One that is dormant has no packets.
-            return match said.get("flags") {
-                Some(_) => Err(Stop::Told(ObjectKind::BadTable)),
-                None => Ok(()),
-            };
+            if !is_awake(said) {
+                return Err(Stop::Told(ObjectKind::BadTable));
+            }
+            return Ok(());
         }
         if !is_read(self.asked.family, family) {
             return Ok(());
