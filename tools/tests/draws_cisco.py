@@ -34,9 +34,11 @@ def draw(draw):
 
 
 def has_no_part(text, refused):
-    """Whether the refused line is one of another list than 101."""
-    begun = [line for line in text.split("\n")[:refused.number]
-             if re.match(r"object-group\b|(ip )?access-list\b", line)]
+    """Whether the refused line is one of another list than 101, or names the device."""
+    lines = text.split("\n")[:refused.number]
+    begun = [line for line in lines if re.match(r"object-group\b|(ip )?access-list\b", line)]
+    if lines[-1].startswith("hostname "):
+        return True
     return bool(begun) and not re.match(r"(ip access-list extended|access-list) 101\b|object-group\b", begun[-1])
 
 

@@ -14,7 +14,11 @@ PORT = rf"(?:eq|neq)(?: (?:{ONE}))+|(?:gt|lt) \S+|range \S+ \S+"
 ENTRY = re.compile(rf"(?:(\d+) )?(permit|deny) (object-group \S+|\S+) ({SPOT})(?: ({PORT}))? ({SPOT})(?: ({PORT}))?"
                    r"((?: log| log-input)*)")
 NUMBERED = {"tcp": 6, "udp": 17, "icmp": 1, "gre": 47, "esp": 50, "sctp": 132}
-COMMANDS = ("interface", "hostname", "ip route", "line", "logging", "router", "service")
+OF_LISTS = re.compile(r"\s*(sequence )?([0-9]+ )?(no |ip |ipv6 )*(permit|deny|remark|access-list|object-group)\b")
+KINDS = "motd|login|exec|incoming|prompt-timeout|slip-ppp|config-save|text"
+BANNERS = (["banner motd ^C", "Use of this device is watched.", " no entry", "^C"], ["banner login #Staff only#"],
+           ["banner exec @ Welcome", "", "to the lab, 10.0.0.1 or not @ and so on"], ["banner motd ^C text ^C"])
+COMMANDS = ("banner", "hostname", "interface", "ip route", "line", "logging", "login", "router", "service")
 
 
 @lru_cache(None)
@@ -44,12 +48,28 @@ def near(text, value):
     return {"eq": value in ends, "neq": value not in ends, "gt": value > ends[0], "lt": value < ends[0]}[words[0]]
 
 
+def outside_banners(lines):
+    """Lines, with an empty one in the place of each that belongs to a banner of several."""
+    mark = None
+    for line in lines:
+        begins = None if mark else re.match(r"\s*banner\s+(?:%s)\s+(\^C|\S)(.*)" % KINDS, line)
+        if mark and OF_LISTS.match(line):
+            raise Unknown(line)
+        yield "hostname banner" if begins else "" if mark else line
+        if begins:
+            mark = None if begins.group(1) in begins.group(2) else begins.group(1)
+        elif mark and mark in line:
+            mark = None
+    if mark:
+        raise Unknown("a banner without an end")
+
+
 class Text:
     """A configuration, line by line: the groups, and the entries of list 101 with their lines."""
 
     def __init__(self, text):
         self.groups, self.entries, self.last, self.here, self.after = {}, {}, 0, None, False
-        for line, words in enumerate(text.split("\n"), 1):
+        for line, words in enumerate(outside_banners(text.split("\n")), 1):
             self.line(line, " ".join(words.split()))
 
     def line(self, line, text):
@@ -255,4 +275,5 @@ def draw(draw):
                " esp"]]
     parts = [["hostname edge"], *groups, draw_list(draw, "101"), draw_list(draw, "102"),
              ["interface Gi0/0", " ip access-group 101 in"]]
+    parts.insert(draw.randrange(len(parts) + 1), draw.choice(BANNERS))
     return "\n".join(line for part in parts for line in [*part, "!"])

@@ -56,7 +56,8 @@ ENDS = (
     (["cisco", EDGE, "NONE"], 3, "list: line 35: no such list"),
     (["cisco", EDGE, "WEB6"], 3, "list: line 23: no extended list of IPv4"),
     (["cisco", EDGE, "WITH-STATE"], 3, "list: line 30: matches what no rule file says"),
-    (["cisco", str(DATA / "branch.cisco"), "TO-SERVERS"], 3, "list: line 33: unknown line"),
+    (["cisco", str(DATA / "branch.cisco"), "CLIENTS"], 3, "list: line 37: no extended list of IPv4"),
+    (["cisco", str(DATA / "branch.cisco"), "TO-SERVERS"], 3, "list: line 50: list, entry or group taken out"),
     (["nft", str(DATA / "router.nft-json"), "admins"], 3, "list: object 0: no base chain of this name"),
     (["nft", str(DATA / "router.nft"), "forward"], 3, "list: object 0: no JSON in UTF-8"),
 )
@@ -143,7 +144,7 @@ class Configurations(unittest.TestCase):
             for data in ("line", "verdict") if form == "cisco" else ():
                 with self.subTest(text=text, data=data):
                     taken += self.alike(text, name, data) is not None
-        self.assertEqual(taken, 12)
+        self.assertEqual(taken, 16)
 
     @BUILT
     def test_lists_that_the_tools_refuse_are_refused(self):

@@ -6,7 +6,6 @@ use Rattle.std.specs.Prelude.{ℕ, Bool, nat_lt, if◌then◌else◌, codes, Lis
 use Rattle.std.specs.Prelude.{slice_index_or, Option, Some, None, Result, Ok, Err}
 use Rattle.std.specs.List.{position}
 use Rattle.std.specs.Str.{bytes_eq}
-use Rattle.text_scan.specs.Parts.{lines_of, words_of}
 use Rattle.cisco_reader.specs.declared.heads.Head.{Head}
 use Rattle.cisco_reader.specs.declared.heads.Head.TheVariants as head
 use Rattle.cisco_reader.specs.declared.fault.LineFault.{LineFault}
@@ -14,19 +13,15 @@ use Rattle.cisco_reader.specs.declared.fault.LineKind.{LineKind}
 use Rattle.cisco_reader.specs.declared.fault.LineKind.TheVariants.{BadGroup, KindTwice, NoGroup, OtherKind, TakenOut}
 use Rattle.cisco_reader.specs.declared.names.Known.TheVariants.{GroupKind}
 use Rattle.cisco_reader.specs.Heads.{head_of}
-use Rattle.cisco_reader.specs.Read.{rest_of, with_lines}
+use Rattle.cisco_reader.specs.Lines.{TextLine, words_in}
+use Rattle.cisco_reader.specs.Read.{◌>>=◌, all_after, in_line, rest_of}
 use Rattle.cisco_reader.specs.Names.{is_known}
-
--- a line of a group: its number, and its words
-pub record GroupLine : Type 0 where
-  pub number : ℕ
-  pub words : List (List ℕ)
 
 -- a group: its kind, its name, and its lines
 pub record ListedGroup : Type 0 where
   pub kind : List ℕ
   pub name : List ℕ
-  pub lines : List GroupLine
+  pub lines : List TextLine
 
 -- the groups so far, and the place of the one in which the next line may stand
 pub record GroupsSoFar : Type 0 where
@@ -82,49 +77,47 @@ with_group so_far (kind ∷ name ∷ []) =
 with_group so_far (kind ∷ name ∷ word ∷ words) = Err BadGroup
 
 -- a group with a line more
-abbrev pub longer : ListedGroup → GroupLine → ListedGroup
+abbrev pub longer : ListedGroup → TextLine → ListedGroup
 longer group line = record group { lines = group.lines ++ line ∷ [] }
 
 -- the groups with a line more in that of a place
-abbrev pub with_line_at : List ListedGroup → GroupLine → ℕ → List ListedGroup
+abbrev pub with_line_at : List ListedGroup → TextLine → ℕ → List ListedGroup
 with_line_at groups line place =
     if nat_lt place (length groups)
     then slice_set groups place (longer (slice_index_or groups place no_group) line) else groups
 
 -- and the same of the groups so far
-abbrev pub with_put : GroupsSoFar → GroupLine → ℕ → GroupsSoFar
+abbrev pub with_put : GroupsSoFar → TextLine → ℕ → GroupsSoFar
 with_put so_far line place = record so_far { groups = with_line_at so_far.groups line place }
 
 -- a line that begins nothing, by where it stands: a description of a group says nothing, and `no`
 -- takes a member out
-abbrev pub with_inner : ℕ → GroupsSoFar → List (List ℕ) → Option ℕ → Result GroupsSoFar LineKind
-with_inner number so_far words None = Ok so_far
-with_inner number so_far [] (Some place) = Ok so_far
-with_inner number so_far (word ∷ words) (Some place) =
+abbrev pub with_inner : TextLine → GroupsSoFar → List (List ℕ) → Option ℕ
+    → Result GroupsSoFar LineKind
+with_inner line so_far words None = Ok so_far
+with_inner line so_far [] (Some place) = Ok so_far
+with_inner line so_far (word ∷ words) (Some place) =
     if bytes_eq word (codes "no") then Err TakenOut
     else (if bytes_eq word (codes "description") then Ok so_far
-    else Ok (with_put so_far (record { number = number; words = word ∷ words }) place))
+    else Ok (with_put so_far line place))
 
 -- the groups with a line, by what that is; one that isn't known is refused when lists are read
-abbrev pub with_group_head : ℕ → GroupsSoFar → List (List ℕ) → Head → Result GroupsSoFar LineKind
-with_group_head number so_far words head.Group = with_group so_far (rest_of words)
-with_group_head number so_far words head.Entry = with_inner number so_far words so_far.inside
-with_group_head number so_far words head.Inside = with_inner number so_far words so_far.inside
-with_group_head number so_far words head.Skipped = Ok so_far
-with_group_head number so_far words head.Unknown = Ok so_far
-with_group_head number so_far words head.Numbered = Ok (record so_far { inside = None })
-with_group_head number so_far words head.Named = Ok (record so_far { inside = None })
-with_group_head number so_far words head.TakenOut = Ok (record so_far { inside = None })
-with_group_head number so_far words head.Part = Ok (record so_far { inside = None })
+abbrev pub with_group_head : TextLine → GroupsSoFar → Head → Result GroupsSoFar LineKind
+with_group_head line so_far head.Group = with_group so_far (rest_of (words_in line))
+with_group_head line so_far head.Entry = with_inner line so_far (words_in line) so_far.inside
+with_group_head line so_far head.Inside = with_inner line so_far (words_in line) so_far.inside
+with_group_head line so_far head.Skipped = Ok so_far
+with_group_head line so_far head.Unknown = Ok so_far
+with_group_head line so_far head.Numbered = Ok (record so_far { inside = None })
+with_group_head line so_far head.Named = Ok (record so_far { inside = None })
+with_group_head line so_far head.TakenOut = Ok (record so_far { inside = None })
+with_group_head line so_far head.Part = Ok (record so_far { inside = None })
 
 -- the groups with a line
-abbrev pub with_group_line : ℕ → GroupsSoFar → List ℕ → Result GroupsSoFar LineKind
-with_group_line number so_far text = with_group_head number so_far (words_of text) (head_of text)
+abbrev pub with_group_line : GroupsSoFar → TextLine → Result GroupsSoFar LineFault
+with_group_line so_far line =
+    in_line line.number (with_group_head line so_far (head_of line.text))
 
--- at the end those that there are
-abbrev pub all_groups : ℕ → GroupsSoFar → Result (List ListedGroup) LineFault
-all_groups number so_far = Ok so_far.groups
-
--- the groups of a file, or the first fault
-abbrev pub groups_of : List ℕ → Result (List ListedGroup) LineFault
-groups_of bytes = with_lines with_group_line all_groups 0 no_groups (lines_of bytes)
+-- the groups of a file's lines, or the first fault
+abbrev pub groups_of : List TextLine → Result (List ListedGroup) LineFault
+groups_of lines = all_after with_group_line no_groups lines >>= λ so_far. Ok so_far.groups

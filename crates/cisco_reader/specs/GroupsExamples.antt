@@ -16,7 +16,8 @@ use Rattle.cisco_reader.specs.declared.fault.LineKind.TheVariants as kind
 use Rattle.cisco_reader.specs.Groups.{groups_of}
 use Rattle.cisco_reader.specs.Held.{address_spans, opened_times, services_of}
 use Rattle.cisco_reader.specs.Names.{number_named, port_table, protocol_table}
-use Rattle.cisco_reader.specs.Read.{◌>>=◌, with_lines}
+use Rattle.cisco_reader.specs.Lines.{are_marked, file_lines, is_marked}
+use Rattle.cisco_reader.specs.Read.{◌>>=◌}
 use Rattle.cisco_reader.specs.Names.{is_among, part_words}
 
 -- the numbers from one to another
@@ -26,7 +27,8 @@ low to high = record { low = low; high = high }
 
 -- what the first group of a file holds, where line 9 names it
 abbrev first_holds : List ℕ → Result (List Span) LineFault
-first_holds text = groups_of text >>= λ groups. address_spans groups 9 (Group 0)
+first_holds text = file_lines text >>= λ lines. (groups_of lines.outside >>= λ groups.
+    address_spans groups 9 (Group 0))
 
 -- a fault of a line
 abbrev faulty : ℕ → LineKind → Result (List Span) LineFault
@@ -36,13 +38,13 @@ faulty line kind = Err (record { line = line; kind = kind })
 members : first_holds (codes "object-group network A\n description some\n host 10.1.0.7\n!\n"
     ++ codes " range 10.0.0.3 10.0.0.5\n 10.2.0.0 255.255.0.0\nhostname edge\n any\n")
     ≡ Ok ((167837703 to 167837703) ∷ (167772163 to 167772165) ∷ (167903232 to 167968767) ∷ [])
-unfolding with_lines digits is_among part_words opened_times
+unfolding is_marked are_marked digits is_among part_words opened_times
 members = refl
 
 -- a network with the length of its prefix, in one word or two
 lengths : first_holds (codes "object-group network A\n 10.2.3.4/16\n 10.2.0.0 /24\n")
     ≡ Ok ((167903232 to 167968767) ∷ (167903232 to 167903487) ∷ [])
-unfolding with_lines digits is_among part_words opened_times
+unfolding is_marked are_marked digits is_among part_words opened_times
 lengths = refl
 
 -- a group in a group stands for its members, also if it begins later and goes on
@@ -51,7 +53,7 @@ inner : first_holds (codes "object-group network A\n group-object B\n host 10.0.
     ++ codes "object-group network B\n host 10.0.0.4\n")
     ≡ Ok ((167772162 to 167772162) ∷ (167772164 to 167772164) ∷ (167772161 to 167772161)
     ∷ (167772163 to 167772163) ∷ [])
-unfolding with_lines digits is_among part_words opened_times
+unfolding is_marked are_marked digits is_among part_words opened_times
 inner = refl
 
 -- files whose first group has a fault
@@ -78,14 +80,15 @@ unheld : are_unheld ((
     ∷ (codes "object-group network\n", 1, kind.BadGroup)
     ∷ (codes "object-group network A\nobject-group service A\n", 2, kind.KindTwice)
     ∷ [])
-unfolding with_lines digits is_among part_words opened_times
+unfolding is_marked are_marked digits is_among part_words opened_times
 unheld = refl
 
 -- ---- services
 
 -- what the first group of a file serves, where line 9 names it
 abbrev first_serves : List ℕ → Result (List Service) LineFault
-first_serves text = groups_of text >>= λ groups. services_of groups 9 (of.Group 0)
+first_serves text = file_lines text >>= λ lines. (groups_of lines.outside >>= λ groups.
+    services_of groups 9 (of.Group 0))
 
 -- protocols, with ports of the source and of the destination
 abbrev service : Protocols → Option PortPart → Option PortPart → Service
@@ -112,7 +115,7 @@ services : first_serves (codes "object-group service S\n description some\n tcp 
     ∷ service TcpUdp None (ports ((53 to 53) ∷ []))
     ∷ service (Between (6 to 6)) (but ((22 to 22) ∷ [])) None
     ∷ service (Between (132 to 132)) None (ports ((0 to 8) ∷ [])) ∷ [])
-unfolding with_lines digits is_among part_words opened_times
+unfolding is_marked are_marked digits is_among part_words opened_times
     number_named port_table protocol_table
 services = refl
 
@@ -121,7 +124,7 @@ protocols : first_serves (codes "object-group service S\n ip\n group-object T\n 
     ++ codes "object-group service T\n icmp\n esp\n")
     ≡ Ok (service (Between (0 to 255)) None None ∷ service (Between (1 to 1)) None None
     ∷ service (Between (50 to 50)) None None ∷ service (Between (50 to 50)) None None ∷ [])
-unfolding with_lines digits is_among part_words opened_times
+unfolding is_marked are_marked digits is_among part_words opened_times
     number_named port_table protocol_table
 protocols = refl
 
@@ -142,6 +145,6 @@ refused : are_refused (
     )
     ∷ (codes "object-group service S\n tcp\n group-object S\n", 3, kind.GroupLoop)
     ∷ [])
-unfolding with_lines digits is_among part_words opened_times
+unfolding is_marked are_marked digits is_among part_words opened_times
     number_named port_table protocol_table
 refused = refl

@@ -88,6 +88,18 @@ head_words inside (first ∷ words) =
 abbrev pub head_of : List ℕ → Head
 head_of line = head_words (is_inside line) (words_of line)
 
+-- a line is a command of lists, or an entry
+abbrev pub is_of_lists : Head → Bool
+is_of_lists head.Numbered = true
+is_of_lists head.Named = true
+is_of_lists head.Group = true
+is_of_lists head.TakenOut = true
+is_of_lists head.Entry = true
+is_of_lists head.Skipped = false
+is_of_lists head.Part = false
+is_of_lists head.Inside = false
+is_of_lists head.Unknown = false
+
 -- ---- lists by their numbers and names
 
 -- a number as devices write it, without a zero before it, that isn't below another

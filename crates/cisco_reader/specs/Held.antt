@@ -21,7 +21,8 @@ use Rattle.cisco_reader.specs.declared.fault.LineFault.{LineFault}
 use Rattle.cisco_reader.specs.declared.fault.LineKind.{LineKind}
 use Rattle.cisco_reader.specs.declared.fault.LineKind.TheVariants as fault
 use Rattle.cisco_reader.specs.Entry.{address_word, all_ones}
-use Rattle.cisco_reader.specs.Groups.{GroupLine, ListedGroup, no_group, place_for}
+use Rattle.cisco_reader.specs.Groups.{ListedGroup, no_group, place_for}
+use Rattle.cisco_reader.specs.Lines.{TextLine, no_line, words_in}
 use Rattle.cisco_reader.specs.Names.{number_of}
 use Rattle.cisco_reader.specs.Read.{After, ◌>>=◌, ◌>>-◌, all_after, alone, done, found, in_line, is_next, required, rest_of}
 use Rattle.cisco_reader.specs.Services.{service_of_words}
@@ -38,68 +39,69 @@ max_depth = MAX_DEPTH
 -- ---- lines
 
 -- a group that is named has members
-abbrev pub filled : List GroupLine → Result (List GroupLine) LineKind
+abbrev pub filled : List TextLine → Result (List TextLine) LineKind
 filled [] = Err fault.EmptyGroup
 filled (line ∷ lines) = Ok (line ∷ lines)
 
 -- the lines of the group of a place
-abbrev pub lines_at : List ListedGroup → ℕ → Result (List GroupLine) LineKind
+abbrev pub lines_at : List ListedGroup → ℕ → Result (List TextLine) LineKind
 lines_at groups place = filled (slice_index_or groups place no_group).lines
 
 -- the lines of the group that one word names, which is of the same kind
 abbrev pub inner_lines : List ListedGroup → List ℕ → List (List ℕ)
-    → Result (List GroupLine) LineKind
+    → Result (List TextLine) LineKind
 inner_lines groups kind words = required words >>- λ name rest. (alone rest name >>=
     place_for groups kind >>= lines_at groups)
 
 -- a line, or those of the group that it names
-abbrev pub opened : List ListedGroup → List ℕ → GroupLine → Result (List GroupLine) LineFault
+abbrev pub opened : List ListedGroup → List ℕ → TextLine → Result (List TextLine) LineFault
 opened groups kind line =
-    if is_next (codes "group-object") line.words
-    then in_line line.number (inner_lines groups kind (rest_of line.words)) else Ok (line ∷ [])
+    if is_next (codes "group-object") (words_in line)
+    then in_line line.number (inner_lines groups kind (rest_of (words_in line)))
+    else Ok (line ∷ [])
 
 -- some lines, if they aren't too many
-abbrev pub few : ℕ → List GroupLine → Result (List GroupLine) LineFault
+abbrev pub few : ℕ → List TextLine → Result (List TextLine) LineFault
 few number lines =
     if nat_lt max_held (length lines) then Err (record { line = number; kind = fault.LargeGroup })
     else Ok lines
 
 -- the lines so far with those of a line
-abbrev pub with_opened : List ListedGroup → List ℕ → ℕ → List GroupLine → GroupLine
-    → Result (List GroupLine) LineFault
+abbrev pub with_opened : List ListedGroup → List ℕ → ℕ → List TextLine → TextLine
+    → Result (List TextLine) LineFault
 with_opened groups kind number so_far line =
     opened groups kind line >>= λ more. few number (so_far ++ more)
 
 -- lines, each replaced by those of the group that it names
-abbrev pub all_opened : List ListedGroup → List ℕ → ℕ → List GroupLine
-    → Result (List GroupLine) LineFault
+abbrev pub all_opened : List ListedGroup → List ℕ → ℕ → List TextLine
+    → Result (List TextLine) LineFault
 all_opened groups kind number lines = all_after (with_opened groups kind number) [] lines
 
 -- the place of the first line that names a group
-abbrev pub first_naming : List GroupLine → Option ℕ
+abbrev pub first_naming : List TextLine → Option ℕ
 first_naming lines =
-    position (λ (line : GroupLine). is_next (codes "group-object") line.words) lines
+    position (λ (line : TextLine). is_next (codes "group-object") (words_in line)) lines
 
 -- the number of the line of a place
-abbrev pub number_at : List GroupLine → ℕ → ℕ
-number_at lines place = (slice_index_or lines place (record { number = 0; words = [] })).number
+abbrev pub number_at : List TextLine → ℕ → ℕ
+number_at lines place = (slice_index_or lines place no_line).number
 
 -- lines, unless one of them names a group: then what follows
-abbrev pub unless_naming : List GroupLine → Option ℕ
-    → (ℕ → Result (List GroupLine) LineFault) → Result (List GroupLine) LineFault
+abbrev pub unless_naming : List TextLine → Option ℕ
+    → (ℕ → Result (List TextLine) LineFault) → Result (List TextLine) LineFault
 unless_naming lines None following = Ok lines
 unless_naming lines (Some place) following = following place
 
 -- lines in which groups were replaced so many times at most
-unfoldable pub opened_times : ℕ → List ListedGroup → List ℕ → ℕ → List GroupLine
-    → Result (List GroupLine) LineFault
+unfoldable pub opened_times : ℕ → List ListedGroup → List ℕ → ℕ → List TextLine
+    → Result (List TextLine) LineFault
 opened_times zero groups kind number lines = unless_naming lines (first_naming lines)
     (λ place. Err (record { line = number_at lines place; kind = fault.GroupLoop }))
 opened_times (suc times) groups kind number lines = unless_naming lines (first_naming lines)
     (λ place. all_opened groups kind number lines >>= opened_times times groups kind number)
 
 -- the lines of all members that a group holds, which a line names
-abbrev pub held : List ListedGroup → List ℕ → ℕ → ℕ → Result (List GroupLine) LineFault
+abbrev pub held : List ListedGroup → List ℕ → ℕ → ℕ → Result (List TextLine) LineFault
 held groups kind number place =
     in_line number (lines_at groups place) >>= opened_times max_depth groups kind number
 
@@ -175,13 +177,13 @@ network_of_words words = required words >>- λ word rest.
 -- ---- what members stand for
 
 -- what was read of members so far, and of one more, each by its words
-abbrev pub with_member : {A : Type 0} → (List (List ℕ) → Result A LineKind) → List A → GroupLine
+abbrev pub with_member : {A : Type 0} → (List (List ℕ) → Result A LineKind) → List A → TextLine
     → Result (List A) LineFault
 with_member read so_far line =
-    in_line line.number (read line.words) >>= λ it. Ok (so_far ++ it ∷ [])
+    in_line line.number (read (words_in line)) >>= λ it. Ok (so_far ++ it ∷ [])
 
 -- what is read of members
-abbrev pub members : {A : Type 0} → (List (List ℕ) → Result A LineKind) → List GroupLine
+abbrev pub members : {A : Type 0} → (List (List ℕ) → Result A LineKind) → List TextLine
     → Result (List A) LineFault
 members read lines = all_after (with_member read) [] lines
 

@@ -5,6 +5,7 @@ pub mod WildcardExamples
 pub mod PortList
 pub mod Services
 pub mod Heads
+pub mod Lines
 pub mod Groups
 pub mod Entry
 pub mod Held

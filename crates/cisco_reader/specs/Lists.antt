@@ -6,7 +6,6 @@ use Rattle.std.specs.Prelude.{ℕ, ◌+◌, ◌==◌, Bool, true, false, not, �
 use Rattle.std.specs.Prelude.{if◌then◌else◌, codes, List, [], ◌∷◌, length, drop, Option, Some, None, Result, Ok, Err}
 use Rattle.std.specs.List.{insert, take_while}
 use Rattle.std.specs.Str.{bytes_eq}
-use Rattle.text_scan.specs.Parts.{lines_of, words_of}
 use Rattle.cisco_reader.specs.declared.entry.Entry.{Entry}
 use Rattle.cisco_reader.specs.declared.entry.Verdict.{Verdict}
 use Rattle.cisco_reader.specs.declared.entry.Verdict.TheVariants as verdict
@@ -25,9 +24,9 @@ use Rattle.cisco_reader.specs.Entry.{entry_of, unless}
 use Rattle.cisco_reader.specs.Groups.{ListedGroup}
 use Rattle.cisco_reader.specs.Heads.{after_comment, head_of, is_asked, is_extended, is_standard, is_unread}
 use Rattle.cisco_reader.specs.Heads.{list_fault, named_stage}
+use Rattle.cisco_reader.specs.Lines.{LinesSoFar, TextLine, words_in}
 use Rattle.cisco_reader.specs.Names.{after_number, begins_known, first_number, is_known}
-use Rattle.cisco_reader.specs.Read.{◌>>=◌, ◌>>-◌, required, rest_of}
-unfoldable pub use Rattle.cisco_reader.specs.Read.{with_lines}
+use Rattle.cisco_reader.specs.Read.{◌>>=◌, ◌>>-◌, all_after, in_line, required, rest_of}
 unfoldable pub use Rattle.cisco_reader.specs.Names.{entry_words}
 
 -- the groups of the file, where the next line stands, whether the list was begun, what is known of
@@ -171,21 +170,21 @@ with_stray line list words stage.Other = Ok list
 with_stray line list words stage.Unread = Ok list
 
 -- the list with a line, by what that is
-abbrev pub with_head : List ℕ → ℕ → ListSoFar → List (List ℕ) → Head → Result ListSoFar LineKind
-with_head asked line list words head.Skipped = Ok (at (after_comment list.stage) list)
-with_head asked line list words head.Numbered = numbered asked line list (rest_of words)
-with_head asked line list words head.Named = named asked list words
-with_head asked line list words head.Group = Ok (at stage.Unread list)
-with_head asked line list words head.TakenOut = Err kind.TakenOut
-with_head asked line list words head.Entry = with_stray line list words list.stage
-with_head asked line list words head.Part = Ok (at stage.Outside list)
-with_head asked line list words head.Inside = unless (list_fault list.stage) (Ok list)
-with_head asked line list words head.Unknown =
-    unless (list_fault list.stage) (Err kind.UnknownLine)
+abbrev pub with_head : List ℕ → TextLine → ListSoFar → Head → Result ListSoFar LineKind
+with_head asked line list head.Skipped = Ok (at (after_comment list.stage) list)
+with_head asked line list head.Numbered =
+    numbered asked line.number list (rest_of (words_in line))
+with_head asked line list head.Named = named asked list (words_in line)
+with_head asked line list head.Group = Ok (at stage.Unread list)
+with_head asked line list head.TakenOut = Err kind.TakenOut
+with_head asked line list head.Entry = with_stray line.number list (words_in line) list.stage
+with_head asked line list head.Part = Ok (at stage.Outside list)
+with_head asked line list head.Inside = unless (list_fault list.stage) (Ok list)
+with_head asked line list head.Unknown = unless (list_fault list.stage) (Err kind.UnknownLine)
 
 -- the list with a line
-abbrev pub with_line : List ℕ → ℕ → ListSoFar → List ℕ → Result ListSoFar LineKind
-with_line asked line list text = with_head asked line list (words_of text) (head_of text)
+abbrev pub with_line : List ℕ → ListSoFar → TextLine → Result ListSoFar LineFault
+with_line asked list line = in_line line.number (with_head asked line list (head_of line.text))
 
 -- the entries, where the list was begun and has some
 abbrev pub ended : ℕ → ListSoFar → Result (List Placed) LineFault
@@ -194,7 +193,7 @@ ended number list =
     else (if length list.entries == 0 then Err (record { line = number; kind = kind.NoEntries })
     else Ok list.entries)
 
--- the entries of the list of a name in a file with these groups, or the first fault
-abbrev pub entries_of : List ListedGroup → List ℕ → List ℕ → Result (List Placed) LineFault
-entries_of groups asked bytes =
-    with_lines (with_line asked) ended 0 (no_list groups) (lines_of bytes)
+-- the entries of the list of a name in the lines of a file with these groups, or the first fault
+abbrev pub entries_of : List ListedGroup → List ℕ → LinesSoFar → Result (List Placed) LineFault
+entries_of groups asked lines =
+    all_after (with_line asked) (no_list groups) lines.outside >>= ended lines.count

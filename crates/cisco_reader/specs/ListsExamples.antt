@@ -15,7 +15,8 @@ use Rattle.cisco_reader.specs.declared.fault.LineKind.TheVariants as kind
 use Rattle.cisco_reader.specs.declared.services.Protocols.TheVariants.{Between}
 use Rattle.cisco_reader.specs.declared.list.Placed.{Placed}
 use Rattle.cisco_reader.specs.Groups.{groups_of}
-use Rattle.cisco_reader.specs.Lists.{entries_of, with_lines}
+use Rattle.cisco_reader.specs.Lines.{are_marked, file_lines, is_marked}
+use Rattle.cisco_reader.specs.Lists.{entries_of}
 use Rattle.cisco_reader.specs.Names.{number_named, port_table, protocol_table}
 use Rattle.cisco_reader.specs.Read.{◌>>=◌}
 use Rattle.cisco_reader.specs.Names.{compared_words, entry_words, is_among, log_words, part_words}
@@ -60,7 +61,8 @@ entry sequence line verdict protocol source destination = record {
 
 -- what the list of a name says
 abbrev said_of : List ℕ → List ℕ → Result (List Placed) LineFault
-said_of name text = groups_of text >>= λ groups. entries_of groups name text
+said_of name text = file_lines text >>= λ lines. (groups_of lines.outside >>= λ groups.
+    entries_of groups name lines)
 
 -- a file whose list A has an entry in its second line
 abbrev in_list : List ℕ → List ℕ
@@ -98,6 +100,14 @@ lists : are_said (
       codes "hostname edge\r\n!\r\ninterface Gi0/0\r\n ip access-group A in\r\n"
           ++ codes "ip access-list extended A\r\n!\r\n permit ip any any\r\nend\r\n",
       entry 10 7 Permit (0 to 255) any any ∷ [],
+    )
+    -- a banner says nothing, up to where its mark stands again, nor does a macro
+    ∷ (
+      codes "A",
+      codes "banner motd ^C\n some text #\nhostname edge ^Cend\nbanner login #one line#\n"
+          ++ codes "macro name ports\nswitchport mode access\n@\n"
+          ++ codes "ip access-list extended A\n permit gre any any\n",
+      entry 10 9 Permit (47 to 47) any any ∷ [],
     )
     -- ports by name and by number after eq
     ∷ (
@@ -142,8 +152,8 @@ lists : are_said (
       } ∷ [],
     )
     ∷ [])
-unfolding with_lines digits is_among number_named port_table protocol_table compared_words
-    log_words entry_words part_words
+unfolding is_marked are_marked digits is_among number_named port_table protocol_table
+    compared_words log_words entry_words part_words
 lists = refl
 
 -- ---- faults
@@ -187,10 +197,13 @@ faulty_files : are_faulty_files (
     ∷ (codes "A", codes "ip access-list standard A\n permit 10.0.0.1\n", 1, kind.NotExtended)
     ∷ (codes "A", codes "ip access-list extended A\nexit\n permit ip any any\n", 3, kind.StrayEntry)
     ∷ (codes "A", codes "some text\n", 1, kind.UnknownLine)
+    ∷ (codes "A", codes "banner motd #\ntext\n permit ip any any\n#\n", 3, kind.BadText)
+    ∷ (codes "A", codes "hostname edge\nbanner exec @ text\nend\n", 2, kind.BadText)
+    ∷ (codes "101", codes "macro name m\naccess-list 101 permit ip any any\n@\n", 2, kind.BadText)
     ∷ (codes "A", codes "ip access-list extended B\n permit ip any any\n", 2, kind.NoList)
     ∷ (codes "101", codes "access-list 101 permit tcp any any\n eq 443\n", 2, kind.Wrapped)
     ∷ (codes "OUT", codes "access-list OUT extended permit ip any any\n", 1, kind.BadList)
     ∷ [])
-unfolding with_lines digits is_among number_named port_table protocol_table compared_words
-    log_words entry_words part_words
+unfolding is_marked are_marked digits is_among number_named port_table protocol_table
+    compared_words log_words entry_words part_words
 faulty_files = refl

@@ -109,22 +109,23 @@ entry_words = codes "permit deny remark dynamic"
 -- alphabet
 unfoldable pub part_words : List ℕ
 part_words =
-    codes "aaa access-session alias archive arp authentication bba-group bfd boot boot-end-marker "
-    ++ codes "boot-start-marker bridge buffers Building call call-home card cdp class-map clns "
-    ++ codes "clock config-register control-plane controller crypto cts Current device-tracking "
-    ++ codes "diagnostic dial-peer dialer dialer-list dot11 dot1x dspfarm enable epm errdisable "
-    ++ codes "ethernet event exception facility-alarm flow frame-relay ftp-server hostname "
-    ++ codes "hw-module identity interface ip ipc ipv6 ipx isdn kerberos key kron l2 l2tp-class "
-    ++ codes "l2vpn lacp ldap license line lldp logging login mab mac mac-address-table map-class "
-    ++ codes "map-list memory memory-size mls modemcap monitor mpls multilink netconf netconf-yang "
-    ++ codes "network-clock network-policy ntp onep parameter-map parser pcep platform policy-map "
-    ++ codes "port-channel power privilege process prompt pseudowire-class ptp qos queue-list "
-    ++ codes "radius radius-server redundancy restconf rmon route-map router rtr sampler scheduler "
-    ++ codes "sdm security service service-template shell sip-ua snmp snmp-server software "
-    ++ codes "spanning-tree stackwise standby subscriber switch system tacacs tacacs-server "
-    ++ codes "telemetry template tftp-server track transceiver tunnel udld upgrade username Using "
-    ++ codes "version virtual-service virtual-template vlan voice voice-port vpdn vpdn-group vrf "
-    ++ codes "vtp wireless wlan wsma x25 zone zone-pair"
+    codes "aaa access-session alias archive arp authentication banner bba-group bfd boot "
+    ++ codes "boot-end-marker boot-start-marker bridge buffers Building call call-home card cdp "
+    ++ codes "class-map clns clock config-register control-plane controller crypto cts Current "
+    ++ codes "device-tracking diagnostic dial-peer dialer dialer-list dot11 dot1x dspfarm enable "
+    ++ codes "epm errdisable ethernet event exception facility-alarm flow frame-relay ftp-server "
+    ++ codes "hostname hw-module identity interface ip ipc ipv6 ipx isdn kerberos key kron l2 "
+    ++ codes "l2tp-class l2vpn lacp ldap license line lldp logging login mab mac "
+    ++ codes "mac-address-table macro map-class map-list memory memory-size mls modemcap monitor "
+    ++ codes "mpls multilink netconf netconf-yang network-clock network-policy ntp onep "
+    ++ codes "parameter-map parser pcep platform policy-map port-channel power privilege process "
+    ++ codes "prompt pseudowire-class ptp qos queue-list radius radius-server redundancy "
+    ++ codes "restconf rmon route-map router rtr sampler scheduler sdm security service "
+    ++ codes "service-template shell sip-ua snmp snmp-server software spanning-tree stackwise "
+    ++ codes "standby subscriber switch system tacacs tacacs-server telemetry template "
+    ++ codes "tftp-server track transceiver tunnel udld upgrade username Using version "
+    ++ codes "virtual-service virtual-template vlan voice voice-port vpdn vpdn-group vrf vtp "
+    ++ codes "wireless wlan wsma x25 zone zone-pair"
 
 -- the words of a kind
 abbrev pub words_for : Known → List ℕ
@@ -141,6 +142,8 @@ words_for known.GroupKind = codes "network service v6-network v6-service securit
 words_for known.Unread = codes "compiled rate-limit dynamic-extended"
 words_for known.UnreadKind = codes "role-based fqdn"
 words_for known.Setting = codes "log-update logging persistent helper match-local-traffic"
+words_for known.BannerKind =
+    codes "exec incoming login motd prompt-timeout slip-ppp config-save text"
 
 -- the word is one of a kind
 abbrev pub is_known : Known → List ℕ → Bool

@@ -19,6 +19,7 @@ use Rattle.cisco_reader.specs.declared.fault.LineFault.{LineFault}
 use Rattle.cisco_reader.specs.declared.fault.LineKind.TheVariants.{FileTooLong, LargeGroup}
 use Rattle.cisco_reader.specs.Groups.{ListedGroup, groups_of}
 use Rattle.cisco_reader.specs.Held.{address_spans, max_held, services_of}
+use Rattle.cisco_reader.specs.Lines.{file_lines}
 use Rattle.cisco_reader.specs.Lists.{entries_of}
 use Rattle.cisco_reader.specs.Read.{◌>>=◌, all_after}
 use Rattle.cisco_reader.specs.Services.{protocol_spans}
@@ -125,10 +126,10 @@ all_rules groups asked entries = all_after (with_rules groups asked) [] entries
 abbrev pub max_list : ℕ
 max_list = MAX_LIST
 
--- the rules of the list of a name in a configuration, in their order, or the first fault: of the
--- heads of its groups, of its lines, and then of the members that its entries need
+-- the rules of the list of a name in a configuration, in their order, or the first fault: of
+-- texts, of the heads of groups, of lines, and then of the members that the list's entries need
 abbrev pub list_of : Answers → List ℕ → List ℕ → Result (List (ListRule (List Span))) LineFault
 list_of asked name bytes =
     if nat_lt max_list (length bytes) then Err (record { line = 0; kind = FileTooLong })
-    else (groups_of bytes >>= λ groups.
-    (entries_of groups name bytes >>= all_rules groups asked))
+    else (file_lines bytes >>= λ lines. (groups_of lines.outside >>= λ groups.
+    (entries_of groups name lines >>= all_rules groups asked)))

@@ -1,5 +1,5 @@
 -- Reading words and lines: what was read, what is left, and the first fault.
-use Rattle.std.specs.Prelude.{◌≡◌, ℕ, ◌+◌, Bool, true, false, List, [], ◌∷◌, Option, Some, None, Result, Ok, Err}
+use Rattle.std.specs.Prelude.{◌≡◌, ℕ, Bool, true, false, List, [], ◌∷◌, Option, Some, None, Result, Ok, Err}
 use Rattle.std.specs.Str.{bytes_eq}
 use Rattle.cisco_reader.specs.declared.fault.CiscoFault.{CiscoFault}
 use Rattle.cisco_reader.specs.declared.fault.CiscoFault.TheVariants.{Line, OutOfMemory}
@@ -78,14 +78,6 @@ all_after step state (x ∷ xs) = step state x >>= λ next. all_after step next 
 abbrev pub in_line : {A : Type 0} → ℕ → Result A LineKind → Result A LineFault
 in_line number (Ok value) = Ok value
 in_line number (Err kind) = Err (record { line = number; kind = kind })
-
--- what lines make of a state after so many lines, up to the first fault, and the end of that
-unfoldable pub with_lines : {S A : Type 0} → (ℕ → S → List ℕ → Result S LineKind)
-    → (ℕ → S → Result A LineFault) → ℕ → S → List (List ℕ) → Result A LineFault
-with_lines step end number state [] = end number state
-with_lines step end number state (line ∷ lines) =
-    in_line (number + 1) (step (number + 1) state line) >>= λ more.
-    with_lines step end (number + 1) more lines
 
 -- ---- what calls promise
 

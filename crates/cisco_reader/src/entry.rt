@@ -12,7 +12,7 @@ use crate::services::{
     service_of,
 };
 use crate::wildcard::{Wildcard, gaps, ip4_plain};
-use crate::words::Words;
+use crate::words::{Words, is};
 use list_chains::Span;
 
 /// How many gaps a wildcard mask may have. It is said by as many spans as its gaps have numbers.
@@ -79,17 +79,17 @@ fn addresses_of(groups: &[Group], words: &mut Words) -> Result<Addresses, LineKi
     ensures { Reads (meant.addresses_of groups.now words.old) result words.new }
 {
     let word = words.required()?;
-    if word == b"any".as_slice() {
+    if is(word, b"any") {
         return Ok(ANY_ADDRESS);
     }
-    if word == b"host".as_slice() {
+    if is(word, b"host") {
         let address = words.address(LineKind::BadAddress)?;
         return Ok(Addresses::Under(Wildcard {
             base: u64::from(address),
             free: 0,
         }));
     }
-    if word == b"object-group".as_slice() {
+    if is(word, b"object-group") {
         return Ok(Addresses::Group(words.group(groups, b"network")?));
     }
     let address = ip4_plain(word).ok_or(LineKind::BadAddress)?;
@@ -119,7 +119,7 @@ fn carried_of(groups: &[Group], words: &mut Words) -> Result<Carried, LineKind>
     ensures { Reads (meant.carried_of groups.now words.old) result words.new }
 {
     let word = words.required()?;
-    if word == b"object-group".as_slice() {
+    if is(word, b"object-group") {
         return Ok(Carried::Group(words.group(groups, b"service")?));
     }
     Ok(Carried::Protocol(protocols_of(word)?))

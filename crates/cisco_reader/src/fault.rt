@@ -65,6 +65,9 @@ pub enum LineKind {
     NoEntry,
     /// The line begins no part of a configuration that is known here.
     UnknownLine,
+    /// The line stands in a banner or a macro and looks like one of a list, or begins one that
+    /// doesn't end.
+    BadText,
     /// The line follows a whole entry, and may be the end of it.
     Wrapped,
     /// The sequence number is 0 or above 4,294,967,294.

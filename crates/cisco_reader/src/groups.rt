@@ -3,56 +3,13 @@
 ghost use Rattle.std.specs.Prelude.{◌≡◌, ◌<◌, length, IfSome};
 ghost use Rattle.cisco_reader.specs.Groups.{group_place, has_kind, place_for};
 
-use crate::fault::{LineKind, Stop};
+use crate::fault::{CiscoFault, LineKind, Stop};
 use crate::heads::{Head, head_of};
+use crate::lines::Line;
 use crate::names::Known;
-use crate::words::Words;
+use crate::words::{Words, is};
 use std::alloc::Global;
 use std::marker::Model;
-
-/// A line of a group. Contracts see its number and its words.
-#[derive(Drop)]
-pub(crate) struct Line<'a> {
-    number: u32,
-    text: &'a [u8],
-}
-
-impl<'a> Model for Line<'a> {
-    ghost use Rattle.text_scan.specs.Parts.{words_of};
-    ghost use Rattle.cisco_reader.specs.Groups.{GroupLine};
-
-    ghost Value = { GroupLine };
-
-    ghost view = { λ line. record { number = line.number; words = words_of line.text.now } };
-}
-
-impl<'a> Line<'a> {
-    ghost use Rattle.std.specs.Prelude.{◌≡◌};
-
-    /// Its number, from 1.
-    pub(crate) fn number(&self) -> u32
-        ensures { result ≡ self.now.number }
-    {
-        self.number
-    }
-
-    /// What stands in it.
-    pub(crate) fn words(&self) -> Words<'a>
-        ensures { result ≡ self.now.words }
-    {
-        Words::of(self.text)
-    }
-
-    /// The same once more.
-    pub(crate) fn again(&self) -> Line<'a>
-        ensures { result ≡ self.now }
-    {
-        Line {
-            number: self.number,
-            text: self.text,
-        }
-    }
-}
 
 /// A group: its kind, its name, and its lines. Contracts see a record of its parts.
 #[derive(Drop)]
@@ -160,9 +117,10 @@ impl<'a> Model for Groups<'a> {
 
 impl<'a> Groups<'a> {
     ghost use Rattle.std.specs.Prelude.{◌≡◌, Ok};
-    ghost use Rattle.text_scan.specs.Parts.{words_of};
     ghost use Rattle.cisco_reader.specs.Groups as meant;
-    ghost use Rattle.cisco_reader.specs.Read.{Becomes};
+    ghost use Rattle.cisco_reader.specs.Heads.{head_of};
+    ghost use Rattle.cisco_reader.specs.Lines.{words_in};
+    ghost use Rattle.cisco_reader.specs.Read.{Becomes, Gives};
 
     /// Nothing was read.
     pub(crate) fn new(alloc: Global) -> Groups<'a>
@@ -236,41 +194,52 @@ impl<'a> Groups<'a> {
     }
 
     /// A line that begins nothing.
-    fn add_inner(&mut self, number: u32, text: &'a [u8]) -> Result<(), Stop>
-        ensures { Becomes (meant.with_inner number self.old (words_of text.now) self.old.inside)
+    fn add_inner(&mut self, line: &Line<'a>) -> Result<(), Stop>
+        ensures { Becomes (meant.with_inner line.now self.old (words_in line.now) self.old.inside)
             result self.new }
     {
         let Some(place) = self.inside else {
             return Ok(());
         };
-        let Some(word) = Words::of(text).next() else {
+        let Some(word) = line.words().next() else {
             return Ok(());
         };
-        if word == b"no".as_slice() {
+        if is(word, b"no") {
             return Err(LineKind::TakenOut.into());
         }
-        if word == b"description".as_slice() {
+        if is(word, b"description") {
             return Ok(());
         }
-        self.put(Line { number, text }, place)
+        self.put(line.again(), place)
     }
 
-    /// A line of a number, from 1.
-    pub(crate) fn add_line(&mut self, number: u32, text: &'a [u8]) -> Result<(), Stop>
-        ensures { Becomes (meant.with_group_line number self.old text.now) result self.new }
+    /// A line, by what it is.
+    fn add_head(&mut self, line: &Line<'a>) -> Result<(), Stop>
+        ensures { Becomes (meant.with_group_head line.now self.old (head_of line.now.text))
+            result self.new }
     {
-        match head_of(text) {
+        match head_of(line.text) {
             Head::Group => {
-                let mut words = Words::of(text);
+                let mut words = line.words();
                 words.next();
                 self.add_group(&mut words)
             }
-            Head::Entry | Head::Inside => self.add_inner(number, text),
+            Head::Entry | Head::Inside => self.add_inner(line),
             Head::Skipped | Head::Unknown => Ok(()),
             Head::Numbered | Head::Named | Head::TakenOut | Head::Part => {
                 self.inside = None;
                 Ok(())
             }
+        }
+    }
+
+    /// A line.
+    pub(crate) fn add_line(&mut self, line: &Line<'a>) -> Result<(), CiscoFault>
+        ensures { Gives (meant.with_group_line self.old line.now) (λ none. self.new) result }
+    {
+        match self.add_head(line) {
+            Ok(()) => Ok(()),
+            Err(stop) => Err(stop.at(line.number)),
         }
     }
 }

@@ -6,7 +6,7 @@ ghost use Rattle.cisco_reader.specs.Heads as meant;
 
 use crate::fault::LineKind;
 use crate::names::{Known, number};
-use crate::words::Words;
+use crate::words::{Words, is};
 
 /// What a line is.
 #[derive(Clone, Copy)]
@@ -29,6 +29,21 @@ pub(crate) enum Head {
     Inside,
     /// It isn't known here.
     Unknown,
+}
+
+impl Head {
+    ghost use Rattle.std.specs.Prelude.{◌≡◌};
+    ghost use Rattle.cisco_reader.specs.Heads as meant;
+
+    /// Whether a line is a command of lists, or an entry.
+    pub(crate) fn is_of_lists(self) -> bool
+        ensures { result ≡ meant.is_of_lists self }
+    {
+        match self {
+            Head::Numbered | Head::Named | Head::Group | Head::TakenOut | Head::Entry => true,
+            Head::Skipped | Head::Part | Head::Inside | Head::Unknown => false,
+        }
+    }
 }
 
 /// Whether a line begins with a blank.
@@ -101,9 +116,9 @@ fn other_head(inside: bool, first: &[u8], words: &mut Words) -> Head
 fn command_head(first: &[u8], words: &Words) -> Option<Head>
     ensures { result ≡ meant.command_head first.now words.now }
 {
-    if first == b"access-list".as_slice() {
+    if is(first, b"access-list") {
         Some(Head::Numbered)
-    } else if first == b"object-group".as_slice() {
+    } else if is(first, b"object-group") {
         Some(Head::Group)
     } else if Known::Named.has(first) && words.is_next(b"access-list") {
         Some(Head::Named)
@@ -137,7 +152,7 @@ pub(crate) fn head_of(line: &[u8]) -> Head
     if begins(b'!', first) {
         return Head::Skipped;
     }
-    if first == b"no".as_slice() {
+    if is(first, b"no") {
         return removed_head(inside, &mut words);
     }
     if let Some(head) = command_head(first, &words) {
@@ -229,7 +244,7 @@ fn setting_stage(word: &[u8]) -> Result<Stage, LineKind>
 fn kind_stage(asked: &[u8], kind: &[u8], name: &[u8]) -> Result<Stage, LineKind>
     ensures { result ≡ meant.kind_stage asked.now kind.now name.now }
 {
-    if kind == b"extended".as_slice() {
+    if is(kind, b"extended") {
         if !may_be_extended(name) {
             return Err(LineKind::BadList);
         }
@@ -238,7 +253,7 @@ fn kind_stage(asked: &[u8], kind: &[u8], name: &[u8]) -> Result<Stage, LineKind>
         }
         return Ok(Stage::Other);
     }
-    if kind == b"standard".as_slice() {
+    if is(kind, b"standard") {
         return other_stage(asked, name);
     }
     if Known::UnreadKind.has(kind) {
@@ -284,13 +299,13 @@ pub(crate) fn named_stage(asked: &[u8], words: &mut Words) -> Result<Stage, Line
         return Err(LineKind::BadList);
     };
     words.next();
-    if first == b"ip".as_slice() {
+    if is(first, b"ip") {
         return ip_stage(asked, words);
     }
-    if first == b"ipv6".as_slice() {
+    if is(first, b"ipv6") {
         return ip6_stage(asked, words);
     }
-    if first == b"hardware".as_slice() {
+    if is(first, b"hardware") {
         return Ok(Stage::Outside);
     }
     Ok(Stage::Unread)

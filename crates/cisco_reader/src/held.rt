@@ -7,7 +7,8 @@ ghost use Rattle.cisco_reader.specs.Services.{service_of_words};
 
 use crate::entry::{Addresses, Services};
 use crate::fault::{CiscoFault, LineKind, line_fault};
-use crate::groups::{Group, Line, place_for};
+use crate::groups::{Group, place_for};
+use crate::lines::Line;
 use crate::members::network_of_words;
 use crate::services::{Service, service_of_words};
 use crate::wildcard::spans_under;
@@ -79,7 +80,7 @@ fn put_opened<'a>(
     if words.skip(b"group-object") {
         match inner_lines(groups, kind, &mut words) {
             Ok(lines) => put_lines(into, lines)?,
-            Err(fault) => return Err(line_fault(line.number(), fault)),
+            Err(fault) => return Err(line_fault(line.number, fault)),
         }
     } else {
         into.push(line.again())?;
@@ -123,7 +124,8 @@ fn number_at(lines: &[Line], place: usize) -> u32
     requires { place < length lines.now }
     ensures { result ≡ meant.number_at lines.now place }
 {
-    lines[place].number()
+    let line = &lines[place];
+    line.number
 }
 
 /// The lines of all members that a group holds, which a line names. It takes the memory of them.
@@ -180,7 +182,7 @@ fn networks(alloc: Global, lines: &[Line]) -> Result<Vec<Span>, CiscoFault>
     for line in lines {
         match network_of_words(&mut line.words()) {
             Ok(span) => into.push(span)?,
-            Err(kind) => return Err(line_fault(line.number(), kind)),
+            Err(kind) => return Err(line_fault(line.number, kind)),
         }
     }
     Ok(into)
@@ -228,7 +230,7 @@ fn member_services(alloc: Global, lines: &[Line]) -> Result<Vec<Service>, CiscoF
     for line in lines {
         match service_of_words(&mut line.words()) {
             Ok(service) => into.push(service)?,
-            Err(kind) => return Err(line_fault(line.number(), kind)),
+            Err(kind) => return Err(line_fault(line.number, kind)),
         }
     }
     Ok(into)

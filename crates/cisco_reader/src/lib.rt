@@ -7,6 +7,7 @@
 //! |---|---|
 //! | `names` | words that are known, numbers, and names of ports and protocols |
 //! | `words` | the words of a line, one after the other |
+//! | `lines` | the lines outside of banners and macros |
 //! | `heads` | what a line is in its configuration, and where the next one stands |
 //! | `groups` | groups by their names, with their lines |
 //! | `port_list` | ports after `eq` and `neq` |
@@ -32,6 +33,7 @@ mod groups;
 mod heads;
 mod held;
 pub mod laws;
+mod lines;
 mod list;
 mod members;
 mod names;

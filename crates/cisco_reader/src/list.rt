@@ -4,11 +4,12 @@ ghost use Rattle.std.specs.Prelude.{◌≡◌, ◌≤◌, length};
 ghost use Rattle.cisco_reader.specs.Lists as meant;
 
 use crate::entry::{Entry, Verdict, entry_of};
-use crate::fault::{LineFault, LineKind, Stop};
+use crate::fault::{CiscoFault, LineKind, Stop, line_fault};
 use crate::groups::Group;
 use crate::heads::{Head, Stage, head_of, is_extended, is_standard, is_unread, named_stage};
+use crate::lines::Line;
 use crate::names::Known;
-use crate::words::Words;
+use crate::words::{Words, is};
 use std::alloc::Global;
 use std::marker::Model;
 
@@ -61,10 +62,10 @@ impl<'g, 'a> Model for List<'g, 'a> {
 }
 
 impl<'g, 'a> List<'g, 'a> {
-    ghost use Rattle.std.specs.Prelude.{◌≡◌, ◌≤◌, length, MatchResult, Ok, Err};
-    ghost use Rattle.text_scan.specs.Parts.{words_of};
+    ghost use Rattle.std.specs.Prelude.{◌≡◌, ◌≤◌, length, Ok};
+    ghost use Rattle.cisco_reader.specs.Heads.{head_of};
     ghost use Rattle.cisco_reader.specs.Lists as meant;
-    ghost use Rattle.cisco_reader.specs.Read.{Becomes};
+    ghost use Rattle.cisco_reader.specs.Read.{Becomes, Gives};
 
     /// Nothing was read of a file that has these groups.
     pub(crate) fn new(alloc: Global, groups: &'g [Group<'a>]) -> List<'g, 'a>
@@ -111,7 +112,7 @@ impl<'g, 'a> List<'g, 'a> {
             let entry = entry_of(self.groups, verdict, words)?;
             return self.add_entry(line, number, entry);
         }
-        if word == b"remark".as_slice() {
+        if is(word, b"remark") {
             self.loose = loose_after_remark(self.loose);
             return Ok(());
         }
@@ -188,21 +189,22 @@ impl<'g, 'a> List<'g, 'a> {
         }
     }
 
-    /// A line of a number, from 1.
-    pub(crate) fn add_line(&mut self, asked: &[u8], line: u32, text: &[u8]) -> Result<(), Stop>
-        ensures { Becomes (meant.with_line asked.now line self.old text.now) result self.new }
+    /// A line, by what it is.
+    fn add_head(&mut self, asked: &[u8], line: &Line) -> Result<(), Stop>
+        ensures { Becomes (meant.with_head asked.now line.now self.old (head_of line.now.text))
+            result self.new }
     {
-        let mut words = Words::of(text);
-        match head_of(text) {
+        let mut words = line.words();
+        match head_of(line.text) {
             Head::Skipped => self.stand(self.stage.after_comment()),
             Head::Numbered => {
                 words.next();
-                self.numbered(asked, line, &mut words)
+                self.numbered(asked, line.number, &mut words)
             }
             Head::Named => self.named(asked, &mut words),
             Head::Group => self.stand(Stage::Unread),
             Head::TakenOut => Err(LineKind::TakenOut.into()),
-            Head::Entry => self.add_stray(line, &mut words),
+            Head::Entry => self.add_stray(line.number, &mut words),
             Head::Part => self.stand(Stage::Outside),
             Head::Inside => match self.stage.list_fault() {
                 Some(kind) => Err(kind.into()),
@@ -215,23 +217,25 @@ impl<'g, 'a> List<'g, 'a> {
         }
     }
 
+    /// A line.
+    pub(crate) fn add_line(&mut self, asked: &[u8], line: &Line) -> Result<(), CiscoFault>
+        ensures { Gives (meant.with_line asked.now self.old line.now) (λ none. self.new) result }
+    {
+        match self.add_head(asked, line) {
+            Ok(()) => Ok(()),
+            Err(stop) => Err(stop.at(line.number)),
+        }
+    }
+
     /// The entries, where the list was begun and has some. The last line has the number.
-    pub(crate) fn ended(self, number: u32) -> Result<Vec<Placed>, LineFault>
-        ensures { MatchResult result
-            (λ entries. meant.ended number self.entry ≡ Ok entries.items)
-            (λ fault. meant.ended number self.entry ≡ Err fault) }
+    pub(crate) fn ended(self, number: u32) -> Result<Vec<Placed>, CiscoFault>
+        ensures { Gives (meant.ended number self.entry) (λ entries. entries.items) result }
     {
         if !self.begun {
-            return Err(LineFault {
-                line: number,
-                kind: LineKind::NoList,
-            });
+            return Err(line_fault(number, LineKind::NoList));
         }
         if self.entries.is_empty() {
-            return Err(LineFault {
-                line: number,
-                kind: LineKind::NoEntries,
-            });
+            return Err(line_fault(number, LineKind::NoEntries));
         }
         Ok(self.entries)
     }
@@ -241,9 +245,9 @@ impl<'g, 'a> List<'g, 'a> {
 fn verdict_named(word: &[u8]) -> Option<Verdict>
     ensures { result ≡ meant.verdict_named word.now }
 {
-    if word == b"permit".as_slice() {
+    if is(word, b"permit") {
         Some(Verdict::Permit)
-    } else if word == b"deny".as_slice() {
+    } else if is(word, b"deny") {
         Some(Verdict::Deny)
     } else {
         None

@@ -8,7 +8,7 @@ ghost use Rattle.cisco_reader.specs.Read.{Reads};
 use crate::fault::LineKind;
 use crate::names::number;
 use crate::wildcard::{ip4_plain, power};
-use crate::words::Words;
+use crate::words::{Words, is};
 use list_chains::Span;
 use text_scan::split_once;
 
@@ -82,14 +82,14 @@ fn plain_member(word: &[u8], words: &mut Words) -> Result<Span, LineKind>
 fn network_member(word: &[u8], words: &mut Words) -> Result<Span, LineKind>
     ensures { Reads (meant.network_member word.now words.old) result words.new }
 {
-    if word == b"any".as_slice() {
+    if is(word, b"any") {
         return Ok(addresses_between(0, u32::MAX));
     }
-    if word == b"host".as_slice() {
+    if is(word, b"host") {
         let address = words.address(LineKind::BadAddress)?;
         return Ok(addresses_between(address, address));
     }
-    if word == b"range".as_slice() {
+    if is(word, b"range") {
         let low = words.required()?;
         let high = words.required()?;
         let low = ip4_plain(low).ok_or(LineKind::BadAddress)?;

@@ -118,6 +118,8 @@ pub(crate) enum Known {
     UnreadKind,
     /// They set something for lists, and begin none.
     Setting,
+    /// The kinds of banners.
+    BannerKind,
 }
 
 impl Known {
@@ -143,6 +145,8 @@ impl Known {
             Known::Unread => b"compiled rate-limit dynamic-extended",
             Known::UnreadKind => b"role-based fqdn",
             Known::Setting => b"log-update logging persistent helper match-local-traffic",
+            Known::BannerKind =>
+                b"exec incoming login motd prompt-timeout slip-ppp config-save text",
         }
     }
 
@@ -170,21 +174,21 @@ fn compared_words() -> &'static [u8]
 fn part_words() -> &'static [u8]
     ensures { result.now ≡ meant.words_for Known.Part }
 {
-    b"aaa access-session alias archive arp authentication bba-group bfd boot boot-end-marker \
-    boot-start-marker bridge buffers Building call call-home card cdp class-map clns clock \
-    config-register control-plane controller crypto cts Current device-tracking diagnostic \
-    dial-peer dialer dialer-list dot11 dot1x dspfarm enable epm errdisable ethernet event \
-    exception facility-alarm flow frame-relay ftp-server hostname hw-module identity interface ip \
-    ipc ipv6 ipx isdn kerberos key kron l2 l2tp-class l2vpn lacp ldap license line lldp logging \
-    login mab mac mac-address-table map-class map-list memory memory-size mls modemcap monitor \
-    mpls multilink netconf netconf-yang network-clock network-policy ntp onep parameter-map \
-    parser pcep platform policy-map port-channel power privilege process prompt pseudowire-class \
-    ptp qos queue-list radius radius-server redundancy restconf rmon route-map router rtr sampler \
-    scheduler sdm security service service-template shell sip-ua snmp snmp-server software \
-    spanning-tree stackwise standby subscriber switch system tacacs tacacs-server telemetry \
-    template tftp-server track transceiver tunnel udld upgrade username Using version \
-    virtual-service virtual-template vlan voice voice-port vpdn vpdn-group vrf vtp wireless wlan \
-    wsma x25 zone zone-pair"
+    b"aaa access-session alias archive arp authentication banner bba-group bfd boot \
+    boot-end-marker boot-start-marker bridge buffers Building call call-home card cdp class-map \
+    clns clock config-register control-plane controller crypto cts Current device-tracking \
+    diagnostic dial-peer dialer dialer-list dot11 dot1x dspfarm enable epm errdisable ethernet \
+    event exception facility-alarm flow frame-relay ftp-server hostname hw-module identity \
+    interface ip ipc ipv6 ipx isdn kerberos key kron l2 l2tp-class l2vpn lacp ldap license line \
+    lldp logging login mab mac mac-address-table macro map-class map-list memory memory-size mls \
+    modemcap monitor mpls multilink netconf netconf-yang network-clock network-policy ntp onep \
+    parameter-map parser pcep platform policy-map port-channel power privilege process prompt \
+    pseudowire-class ptp qos queue-list radius radius-server redundancy restconf rmon route-map \
+    router rtr sampler scheduler sdm security service service-template shell sip-ua snmp \
+    snmp-server software spanning-tree stackwise standby subscriber switch system tacacs \
+    tacacs-server telemetry template tftp-server track transceiver tunnel udld upgrade username \
+    Using version virtual-service virtual-template vlan voice voice-port vpdn vpdn-group vrf vtp \
+    wireless wlan wsma x25 zone zone-pair"
         .as_slice()
 }
 

@@ -1,6 +1,6 @@
 //! A configuration of IOS → the rules of one of its lists.
 
-ghost use Rattle.std.specs.Prelude.{◌≡◌, ◌≤◌, ◌⊎◌, length, IfOk, Ok, Err};
+ghost use Rattle.std.specs.Prelude.{◌≡◌, ◌⊎◌, IfOk, Ok, Err};
 ghost use Rattle.cisco_reader.specs.Groups.{groups_of};
 ghost use Rattle.cisco_reader.specs.Lists.{entries_of};
 ghost use Rattle.cisco_reader.specs.Packets.{list_of};
@@ -10,10 +10,10 @@ ghost use Rattle.cisco_reader.specs.declared.fault.LineFault.{LineFault};
 use crate::boxes::all_rules;
 use crate::fault::{CiscoFault, LineKind, line_fault};
 use crate::groups::{Group, Groups};
+use crate::lines::{Line, Lines};
 use crate::list::{List, Placed};
 use list_chains::{Chain, ChainRule};
 use std::alloc::Global;
-use text_scan::split_line;
 
 /// How many bytes a configuration may have.
 pub const MAX_LIST: usize = 16_777_216;
@@ -27,49 +27,33 @@ pub enum Answers {
     Verdict,
 }
 
-/// The groups of a configuration, or the first fault of them. It takes memory for their lines.
-fn read_groups(alloc: Global, bytes: &[u8]) -> Result<Vec<Group<'_>>, CiscoFault>
-    requires { length bytes.now ≤ 16777216 }
-    ensures { Gives (groups_of bytes.now) (λ groups. groups.items) result }
+/// The groups of a configuration's lines, or the first fault of them. It takes memory for their
+/// lines.
+fn read_groups<'a>(alloc: Global, lines: &[Line<'a>]) -> Result<Vec<Group<'a>>, CiscoFault>
+    ensures { Gives (groups_of lines.now) (λ groups. groups.items) result }
 {
     let mut groups = Groups::new(alloc);
-    let mut left = bytes;
-    let mut number = 0;
-    while let Some((line, rest)) = split_line(left) {
-        number += 1;
-        match groups.add_line(number, line) {
-            Ok(()) => left = rest,
-            Err(stop) => return Err(stop.at(number)),
-        }
+    for line in lines {
+        groups.add_line(line)?;
     }
     Ok(groups.into_groups())
 }
 
-/// The entries of the list of a name in a configuration that has these groups, or its first faulty
-/// line. It takes memory for the entries.
+/// The entries of the list of a name in the lines of a configuration that has these groups, or its
+/// first faulty line. It takes memory for the entries.
 fn read_entries(
     alloc: Global,
     groups: &[Group],
-    bytes: &[u8],
+    lines: &Lines,
     asked: &[u8],
 ) -> Result<Vec<Placed>, CiscoFault>
-    requires { length bytes.now ≤ 16777216 }
-    ensures { Gives (entries_of groups.now asked.now bytes.now) (λ entries. entries.items) result }
+    ensures { Gives (entries_of groups.now asked.now lines.now) (λ entries. entries.items) result }
 {
     let mut list = List::new(alloc, groups);
-    let mut left = bytes;
-    let mut number = 0;
-    while let Some((line, rest)) = split_line(left) {
-        number += 1;
-        match list.add_line(asked, number, line) {
-            Ok(()) => left = rest,
-            Err(stop) => return Err(stop.at(number)),
-        }
+    for line in &lines.outside {
+        list.add_line(asked, line)?;
     }
-    match list.ended(number) {
-        Ok(entries) => Ok(entries),
-        Err(fault) => Err(CiscoFault::Line(fault)),
-    }
+    list.ended(lines.count)
 }
 
 /// The rules of the list of a name, or why it isn't read.
@@ -84,8 +68,9 @@ fn list_rules(
     if bytes.len() > MAX_LIST {
         return Err(line_fault(0, LineKind::FileTooLong));
     }
-    let groups = read_groups(alloc, bytes)?;
-    let entries = read_entries(alloc, &groups, bytes, name)?;
+    let lines = Lines::of(alloc, bytes)?;
+    let groups = read_groups(alloc, &lines.outside)?;
+    let entries = read_entries(alloc, &groups, &lines, name)?;
     all_rules(alloc, &groups, answers, &entries)
 }
 
@@ -107,10 +92,14 @@ fn list_rules(
 /// and a network with its mask or the length of its prefix. Of services they are protocols, with
 /// ports of the source after `source` and ports of the destination. Both may be other groups.
 ///
+/// A banner (`banner KIND`, a mark, and text up to where the mark stands again) says nothing, and
+/// so does a macro (`macro name NAME`, up to `@`). A line in one of them that begins as one of a
+/// list is a fault, and so is one without an end.
+///
 /// `Line` comes exactly where the file is too long (line 0), some line is faulty, or the list isn't
 /// begun or has no entries (the last line), as long as memory lasts. Of faulty lines the first one
-/// is told: of heads of groups, else of all lines, else of members and sizes of groups, entry by
-/// entry. It takes memory for the groups' lines, the entries and the rules.
+/// is told: of such texts, else of heads of groups, else of all lines, else of members and sizes of
+/// groups, entry by entry. It takes memory for the lines, the entries and the rules.
 pub fn read_list(
     alloc: Global,
     bytes: &[u8],

@@ -7,7 +7,7 @@ ghost use Rattle.cisco_reader.specs.Services as meant;
 use crate::fault::LineKind;
 use crate::names::{MAX_PROTOCOL, port, protocol_number};
 use crate::port_list::Ports;
-use crate::words::Words;
+use crate::words::{Words, is};
 use list_chains::Span;
 use std::slice;
 
@@ -37,15 +37,15 @@ pub(crate) enum Operator {
 pub(crate) fn operator_named(word: &[u8]) -> Option<Operator>
     ensures { result ≡ meant.operator_named word.now }
 {
-    if word == b"eq".as_slice() {
+    if is(word, b"eq") {
         Some(Operator::Equal)
-    } else if word == b"neq".as_slice() {
+    } else if is(word, b"neq") {
         Some(Operator::NotEqual)
-    } else if word == b"gt".as_slice() {
+    } else if is(word, b"gt") {
         Some(Operator::Greater)
-    } else if word == b"lt".as_slice() {
+    } else if is(word, b"lt") {
         Some(Operator::Less)
-    } else if word == b"range".as_slice() {
+    } else if is(word, b"range") {
         Some(Operator::Range)
     } else {
         None
@@ -130,7 +130,7 @@ pub(crate) struct Service {
 pub(crate) fn protocols_of(word: &[u8]) -> Result<Span, LineKind>
     ensures { result ≡ meant.protocols_of word.now }
 {
-    if word == b"ip".as_slice() {
+    if is(word, b"ip") {
         return Ok(ANY_PROTOCOL);
     }
     let number = protocol_number(word).ok_or(LineKind::BadProtocol)?;
@@ -265,7 +265,7 @@ fn destination_ports(words: &mut Words) -> Result<Option<PortPart>, LineKind>
 fn member_protocols(word: &[u8]) -> Result<Protocols, LineKind>
     ensures { result ≡ meant.member_protocols word.now }
 {
-    if word == b"tcp-udp".as_slice() {
+    if is(word, b"tcp-udp") {
         return Ok(Protocols::TcpUdp);
     }
     Ok(Protocols::Between(protocols_of(word)?))

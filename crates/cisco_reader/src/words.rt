@@ -1,5 +1,8 @@
 //! The words of a line, one after the other.
 
+ghost use Rattle.std.specs.Prelude.{◌≡◌};
+ghost use Rattle.std.specs.Str.{bytes_eq};
+
 use crate::fault::LineKind;
 use crate::groups::{Group, place_for};
 use crate::names::{Known, number, port};
@@ -9,6 +12,13 @@ use crate::wildcard::ip4_plain;
 use list_chains::Span;
 use std::marker::Model;
 use text_scan::next_word;
+
+/// Whether a word is this one.
+pub(crate) fn is(word: &[u8], text: &[u8]) -> bool
+    ensures { result ≡ bytes_eq word.now text.now }
+{
+    word == text
+}
 
 /// The words of a line that are left. Contracts see the list of them.
 #[derive(Drop)]
@@ -48,7 +58,9 @@ impl<'a> Words<'a> {
             (λ word. self.old ≡ word.now ∷ self.new) }
         ensures rest { self.new ≡ rest_of self.old }
     {
-        let (word, rest) = next_word(self.left)?;
+        let Some((word, rest)) = next_word(self.left) else {
+            return None;
+        };
         self.left = rest;
         Some(word)
     }

@@ -88,8 +88,8 @@ a_loop = refl
 -- an entry of a router that no rule file says
 a_faulty_entry : over (codes "access-list 101 permit tcp any any established\n")
     (asked Cisco (codes "101") answers.Line) ≡ only (Refused (at_line 1 (CiscoLine entry.Compares)))
-unfolding digits cisco.with_lines is_among number_named names.protocol_table compared_words
-    log_words cisco.entry_words
+unfolding digits is_among number_named names.protocol_table compared_words log_words
+    cisco.entry_words
 a_faulty_entry = refl
 
 -- ---- rules of a ruleset that no rule file says

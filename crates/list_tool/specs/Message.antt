@@ -1,5 +1,5 @@
 -- The line on standard error that tells how a run ended.
-use Rattle.std.specs.Prelude.{ℕ, List, [], ◌∷◌, ◌++◌, codes, decimal}
+use Rattle.std.specs.Prelude.{◌≡◌, ◌≤◌, ℕ, List, [], ◌∷◌, ◌++◌, codes, decimal, length}
 use Rattle.command_ending.specs.Message.{usage_text}
 use Rattle.iptables_reader.specs.declared.fault.LineKind.{LineKind}
 use Rattle.iptables_reader.specs.declared.fault.LineKind.TheVariants as line
@@ -18,6 +18,11 @@ use Rattle.list_tool.specs.declared.status.ListPlace.TheVariants as placed
 use Rattle.list_tool.specs.declared.status.ListStatus.{ListStatus}
 use Rattle.list_tool.specs.declared.status.ListStatus.TheVariants.{Done, Usage, Refused, ReadFault}
 use Rattle.list_tool.specs.declared.status.ListStatus.TheVariants.{WriteFault, OutOfMemory}
+
+-- a call gave this text, for which a line has room
+pub record Says (text said : List ℕ) : Type 0 where
+  pub same : said ≡ text
+  pub short : length said ≤ 40
 
 -- what is told of a line of a saved list
 abbrev pub table_text : LineKind → List ℕ
@@ -62,6 +67,7 @@ cisco_text entry.TakenOut = codes "list, entry or group taken out"
 cisco_text entry.StrayEntry = codes "entry outside of a list"
 cisco_text entry.NoEntry = codes "no entry of its list"
 cisco_text entry.UnknownLine = codes "unknown line"
+cisco_text entry.BadText = codes "text with a list, or without an end"
 cisco_text entry.Wrapped = codes "may be the end of the entry before"
 cisco_text entry.BadSequence = codes "bad sequence number"
 cisco_text entry.SequenceTwice = codes "repeated sequence number"
@@ -94,7 +100,7 @@ object_text object.NotJson = codes "no JSON in UTF-8"
 object_text object.NoList = codes "no ruleset of nft"
 object_text object.UnknownObject = codes "unknown object"
 object_text object.NoFamily = codes "no family"
-object_text object.BadTable = codes "table with flags"
+object_text object.BadTable = codes "table that may be dormant"
 object_text object.BadChain = codes "bad chain"
 object_text object.BadPolicy = codes "bad policy"
 object_text object.ChainTwice = codes "chain declared twice"

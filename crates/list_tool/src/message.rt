@@ -2,7 +2,7 @@
 
 ghost use Rattle.std.specs.Prelude.{◌≡◌, ◌≤◌, length, take};
 ghost use Rattle.acl_report.specs.declared.line.TheConstants.{LINE_ROOM};
-ghost use Rattle.list_tool.specs.Message.{cisco_text, list_text, message, numbered, object_text};
+ghost use Rattle.list_tool.specs.Message.{Says, cisco_text, list_text, message, numbered, object_text};
 ghost use Rattle.list_tool.specs.Message.{place_number, place_text, rule_text, start_text, table_text};
 
 use crate::status::{ListKind, ListPlace, ListStatus};
@@ -52,8 +52,7 @@ fn numbered_line(subject: &[u8], number: u64, kind: &[u8], into: &mut [u8; LINE_
 
 /// What a place is called, before its number.
 fn place_name(place: ListPlace) -> &'static [u8]
-    ensures text { result.now ≡ place_text place }
-    ensures short { length result.now ≤ 40 }
+    ensures { Says (place_text place) result.now }
 {
     match place {
         ListPlace::Line(_) => b"list: line ",
@@ -73,8 +72,7 @@ fn place_number(place: ListPlace) -> u64
 }
 
 fn list_kind(kind: ListKind) -> &'static [u8]
-    ensures text { result.now ≡ list_text kind }
-    ensures short { length result.now ≤ 40 }
+    ensures { Says (list_text kind) result.now }
 {
     match kind {
         ListKind::Line(fault) => table_kind(fault),
@@ -94,8 +92,7 @@ fn list_kind(kind: ListKind) -> &'static [u8]
 }
 
 fn table_kind(fault: LineKind) -> &'static [u8]
-    ensures text { result.now ≡ table_text fault }
-    ensures short { length result.now ≤ 40 }
+    ensures { Says (table_text fault) result.now }
 {
     match fault {
         LineKind::FileTooLong => b"file too long",
@@ -131,8 +128,7 @@ fn table_kind(fault: LineKind) -> &'static [u8]
 }
 
 fn cisco_kind(fault: cisco_reader::LineKind) -> &'static [u8]
-    ensures text { result.now ≡ cisco_text fault }
-    ensures short { length result.now ≤ 40 }
+    ensures { Says (cisco_text fault) result.now }
 {
     match fault {
         cisco_reader::LineKind::FileTooLong => b"file too long",
@@ -144,6 +140,7 @@ fn cisco_kind(fault: cisco_reader::LineKind) -> &'static [u8]
         cisco_reader::LineKind::StrayEntry => b"entry outside of a list",
         cisco_reader::LineKind::NoEntry => b"no entry of its list",
         cisco_reader::LineKind::UnknownLine => b"unknown line",
+        cisco_reader::LineKind::BadText => b"text with a list, or without an end",
         cisco_reader::LineKind::Wrapped => b"may be the end of the entry before",
         cisco_reader::LineKind::BadSequence => b"bad sequence number",
         cisco_reader::LineKind::SequenceTwice => b"repeated sequence number",
@@ -172,8 +169,7 @@ fn cisco_kind(fault: cisco_reader::LineKind) -> &'static [u8]
 }
 
 fn object_kind(fault: ObjectKind) -> &'static [u8]
-    ensures text { result.now ≡ object_text fault }
-    ensures short { length result.now ≤ 40 }
+    ensures { Says (object_text fault) result.now }
 {
     match fault {
         ObjectKind::FileTooLong => b"file too long",
@@ -181,7 +177,7 @@ fn object_kind(fault: ObjectKind) -> &'static [u8]
         ObjectKind::NoList => b"no ruleset of nft",
         ObjectKind::UnknownObject => b"unknown object",
         ObjectKind::NoFamily => b"no family",
-        ObjectKind::BadTable => b"table with flags",
+        ObjectKind::BadTable => b"table that may be dormant",
         ObjectKind::BadChain => b"bad chain",
         ObjectKind::BadPolicy => b"bad policy",
         ObjectKind::ChainTwice => b"chain declared twice",
@@ -191,8 +187,7 @@ fn object_kind(fault: ObjectKind) -> &'static [u8]
 }
 
 fn rule_kind(fault: RuleKind) -> &'static [u8]
-    ensures text { result.now ≡ rule_text fault }
-    ensures short { length result.now ≤ 40 }
+    ensures { Says (rule_text fault) result.now }
 {
     match fault {
         RuleKind::BadStatement => b"bad statement",
@@ -210,8 +205,7 @@ fn rule_kind(fault: RuleKind) -> &'static [u8]
 }
 
 fn start_kind(fault: StartFault) -> &'static [u8]
-    ensures text { result.now ≡ start_text fault }
-    ensures short { length result.now ≤ 40 }
+    ensures { Says (start_text fault) result.now }
 {
     match fault {
         StartFault::NoStart => b"no base chain of this name",

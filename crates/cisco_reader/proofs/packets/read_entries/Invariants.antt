@@ -1,12 +1,9 @@
--- The lines that were read so far.
-use Rattle.std.proofs.Common.{length}
-use Rattle.cisco_reader.specs.Lists.{ended, no_list, with_line}
-use Rattle.cisco_reader.proofs.ListLines.{IsReadUpTo}
+-- The list so far.
+use Rattle.cisco_reader.specs.Lists.{no_list, with_line}
+use Rattle.cisco_reader.proofs.Steps.{IsMadeUpTo}
 use Rattle.cisco_reader.proofs.packets.read_entries.Given as goal
 
--- those that are left, after the list so far, make what all lines make
+-- it has what each line so far adds to it
 abbrev pub invariant-loop-line : goal.invariant-loop-line
-invariant-loop-line l = IsReadUpTo (with_line l.asked) ended (no_list l.groups) l.bytes l.list l.number l.left
-
-abbrev pub decreases-loop-line : goal.decreases-loop-line
-decreases-loop-line l = length l.left
+invariant-loop-line l =
+    IsMadeUpTo (with_line l.asked) (no_list l.groups) l.lines.outside l.line-index l.list
