@@ -99,7 +99,7 @@ class Configuration:
     parts."""
 
     known = frozenset()
-    # Whether a banner goes on to a mark, and isn't a line alone.
+    # Whether a banner goes on to a mark, and isn't a line alone, and there are macros.
     banners = True
 
     def __init__(self):
@@ -134,7 +134,7 @@ class Configuration:
         return False
 
     def take(self, number, text):
-        """One line; those of a banner say nothing."""
+        """One line; those of a banner or a macro say nothing."""
         words = text.split()
         if self.banner:
             self.banner = self.banner.after(number, text)
@@ -225,5 +225,6 @@ def read(configuration, lines):
     for number, line in enumerate(lines, 1):
         configuration.take(number, line)
     if configuration.banner:
-        raise CantSay("the banner doesn't end", configuration.banner.number, configuration.banner.text)
+        raise CantSay(f"the {configuration.banner.what} doesn't end", configuration.banner.number,
+                      configuration.banner.text)
     return configuration

@@ -1,5 +1,5 @@
 # SPDX-License-Identifier: BSD-3-Clause
-"""What surrounds access lists in a configuration of IOS: the words that begin its other parts, and banners.
+"""What surrounds access lists in a configuration of IOS: the words that begin its other parts, banners and macros.
 
 Source: Cisco IOS Master Command List, commands of the global configuration mode.
 """
@@ -21,25 +21,30 @@ subscriber switch system tacacs tacacs-server telemetry template tftp-server tim
 upgrade username version virtual-service virtual-template vlan voice voice-port vpdn vpdn-group vrf vtp wireless wlan
 wsma x25 zone zone-pair
 """.split())
+# The kinds of banners, and the mark with what follows it.
+BEGINS_BANNER = re.compile(r"\s*banner\s+(?:exec|incoming|login|motd|prompt-timeout|slip-ppp|config-save|text)\s+"
+                           r"(\^C|\S)(.*)")
 # A line of a banner that looks like one of a list.
 OF_A_LIST = re.compile(r"\s*((sequence )?[0-9]+ )?(permit|deny|(no |ip |ipv6 )*access-list|object-group)\b")
 
 
 class Banner:
-    """A banner that has begun: it goes on to the mark that it begins with."""
+    """A banner or a macro that has begun: it goes on to its mark."""
 
-    def __init__(self, mark, number, text):
-        self.mark, self.number, self.text = mark, number, text
+    def __init__(self, what, mark, number, text):
+        self.what, self.mark, self.number, self.text = what, mark, number, text
 
     def after(self, number, text):
-        """The banner that goes on after a line, or None where it ends."""
+        """What goes on after a line, or None where it ends."""
         if OF_A_LIST.match(text):
-            raise CantSay(f"the line stands in the banner of line {self.number}, and looks like one of a list",
+            raise CantSay(f"the line stands in the {self.what} of line {self.number}, and looks like one of a list",
                           number, text)
         return None if self.mark in text else self
 
 
 def banner_of(number, text):
-    """The banner that a line begins and doesn't end, or None."""
-    found = re.match(r"\s*banner [a-z-]+\s+(\^C|\S)(.*)", text)
-    return Banner(found.group(1), number, text) if found and found.group(1) not in found.group(2) else None
+    """The banner that a line begins and doesn't end, or a macro, or None."""
+    if re.match(r"\s*macro\s+name\s+\S", text):
+        return Banner("macro", "@", number, text)
+    found = BEGINS_BANNER.match(text)
+    return Banner("banner", found.group(1), number, text) if found and found.group(1) not in found.group(2) else None

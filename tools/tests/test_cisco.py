@@ -93,6 +93,7 @@ REFUSED = [
      "--list A or --list B"),
     ("cisco", "banner motd #\naccess-list 101 permit ip any any\n#\n", 2, "stands in the banner"),
     ("cisco", "banner motd #\n", 1, "the banner doesn't end"),
+    ("cisco", "macro name m\naccess-list 101 permit ip any any\n@\n", 2, "stands in the macro"),
     ("cisco", IOS_GROUPS.format("host 10.0.0.300"), 4, "in line 2, 10.0.0.300 isn't an address"),
     ("cisco", IOS_GROUPS.format("10.0.0.0 0.0.0.255"), 4, "in line 2, 0.0.0.255 isn't the mask of a network"),
     ("cisco", IOS_GROUPS.format("10.0.0.1 0.0.0.0"), 4, "write any or host"),
@@ -161,6 +162,7 @@ TAKEN = [
     ("cisco", IOS.format("permit udp any any\nno ip access-list extended A") + IOS.format("permit tcp any any"), [5]),
     ("cisco", IOS.format("!comment\n permit tcp any any\n!\n deny ip any any log-input\n!\nbanner motd # permit #"),
      [3, 5]),
+    ("cisco", "macro name m\nswitchport mode access\n@\n" + IOS.format("permit tcp any any"), [5]),
     ("cisco", "ip access-list extended A\r\n permit ipinip any any\r\n permit nos any any\r\n", [2, 3]),
     ("cisco", "ip access-list extended 101\n permit tcp any any\naccess-list 101 permit udp any any\n", [2, 3]),
     ("cisco", IOS_GROUPS.format("10.0.0.0/8\n range 192.0.2.1 192.0.2.6\n group-object M")
