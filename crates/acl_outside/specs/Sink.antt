@@ -1,5 +1,5 @@
 -- What a sink shows of what it was given, and what writing changes of that.
-use Rattle.std.specs.Prelude.{◌≡◌, ℕ, ◌<◌, ◌≤◌, List, [], ◌++◌, length, take, Option, Result, Ok, IfOk, OnOk, OnErr}
+use Rattle.std.specs.Prelude.{◌≡◌, ℕ, ◌<◌, ◌≤◌, List, [], ◌++◌, length, take, Option, Some, Result, Ok, IfOk, OnOk, OnErr}
 use Rattle.acl_outside.specs.Fault.{Rose}
 use Rattle.acl_outside.specs.Told.{Changes}
 
@@ -9,6 +9,10 @@ pub record SinkView : Type 0 where
   pub taken : List ℕ
   pub written : Option (List ℕ)
   pub faults : ℕ
+
+-- If the sink tells which bytes were written, its writer holds exactly these.
+abbrev pub Holds : SinkView → Option (List ℕ) → Type 0
+Holds sink held = (bytes : List ℕ) → sink.written ≡ Some bytes → held ≡ Some bytes
 
 -- The bytes were written at the end.
 abbrev pub Appends : List ℕ → List ℕ → List ℕ → Type 0

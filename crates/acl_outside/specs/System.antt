@@ -1,5 +1,5 @@
 -- What the desk and the sink over the system are.
-use Rattle.std.specs.Prelude.{ℕ, List, Bool, Option, None}
+use Rattle.std.specs.Prelude.{ℕ, List, [], Bool, Option, None}
 use Rattle.acl_outside.specs.Desk.{Answer, DeskView}
 use Rattle.acl_outside.specs.Sink.{SinkView}
 
@@ -29,13 +29,18 @@ shown_std_desk desk = record {
   write_faults = desk.write_faults;
 }
 
--- A sink over a writer of the system: the bytes that the writer holds, where they are known, those
--- that the sink took so far, and the count of its faults.
+-- A sink over a writer: what the writer holds, if that is known; what it held at first and the bytes
+-- that the sink took after them, if the former is known; those bytes alone, and the count of faults.
 pub record StdSinkView : Type 0 where
   pub contents : Option (List ℕ)
+  pub written : Option (List ℕ)
   pub taken : List ℕ
   pub faults : ℕ
 
--- what it shows as a sink: nothing is told of what was written
+-- what it shows as a sink
 abbrev pub shown_std_sink : StdSinkView → SinkView
-shown_std_sink sink = record { taken = sink.taken; written = None; faults = sink.faults }
+shown_std_sink sink = record { taken = sink.taken; written = sink.written; faults = sink.faults }
+
+-- a sink that took nothing yet, over a writer that holds these bytes, if that is known
+abbrev pub std_sink_over : Option (List ℕ) → StdSinkView
+std_sink_over held = record { contents = held; written = held; taken = []; faults = 0 }

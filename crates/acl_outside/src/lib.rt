@@ -15,10 +15,12 @@
 //! - `held_streams`: the null device in the place of standard streams that are closed
 //! - `words`: the words of the system's command line
 //! - `transcript`: what was asked and answered, which only clauses read
+//! - `first_bytes`: what a writer held when its sink was made, which only clauses read
 //! - `laws`: what was heard of a file and what is left to read of it are the file
 #![tactic(auto)]
 
 mod desk;
+mod first_bytes;
 mod held_streams;
 pub mod laws;
 mod listed;

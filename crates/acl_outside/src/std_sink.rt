@@ -4,12 +4,14 @@ ghost use Rattle.std.specs.Prelude.{◌<◌, ◌≤◌, length, IfOk};
 ghost use Rattle.std.specs.Io.KnownBytes.{WriteAppends};
 
 use crate::desk::Failed;
+use crate::first_bytes::FirstBytes;
 use crate::sink::Sink;
 use crate::transcript::Transcript;
 use std::io::{ErrorKind, Write};
 use std::marker::Model;
 
-/// A sink over standard output, standard error or another writer, of which it tells nothing.
+/// A sink over standard output, standard error or another writer. If it is known what the writer
+/// holds, the sink tells what was written to it.
 ///
 /// Each put is one write, so join what belongs together before it is put. A write that is
 /// interrupted before it takes a byte is made again, and one that takes no byte of a piece has
@@ -19,10 +21,13 @@ use std::marker::Model;
 pub struct StdSink<W: Write + Drop> {
     writer: W,
     faults: u64,
+    first: FirstBytes,
     transcript: Transcript,
 }
 
 impl<W: Write + Drop> Model for StdSink<W> {
+    ghost use Rattle.std.specs.Prelude.{◌≡◌, ℕ, List, Some};
+    ghost use Rattle.std.specs.Io.KnownBytes.{append_known};
     ghost use Rattle.acl_outside.specs.Answers.{taken_of};
     ghost use Rattle.acl_outside.specs.System.{StdSinkView};
 
@@ -30,23 +35,48 @@ impl<W: Write + Drop> Model for StdSink<W> {
 
     ghost view = { λ sink. record {
       contents = W.contents sink.writer;
+      written = append_known sink.first.bytes (taken_of sink.transcript.notes);
       taken = taken_of sink.transcript.notes;
       faults = sink.faults;
     } };
+
+    // The writer holds what is told as written.
+    ghost invariant = { λ sink. (bytes : List ℕ)
+        → append_known sink.first.bytes (taken_of sink.transcript.notes) ≡ Some bytes
+        → W.contents sink.writer ≡ Some bytes };
 }
 
 impl<W: Write + Drop> StdSink<W> {
-    ghost use Rattle.std.specs.Prelude.{◌≡◌, []};
+    ghost use Rattle.std.specs.Prelude.{◌≡◌, ℕ, List, Option};
+    ghost use Rattle.acl_outside.specs.Sink.{Holds};
+    ghost use Rattle.acl_outside.specs.System.{shown_std_sink, std_sink_over};
 
     /// A sink over this writer. It takes no memory.
     pub fn new(writer: W) -> StdSink<W>
-        ensures { result ≡ record { contents = W.contents writer; taken = []; faults = 0 } }
+        ensures { result ≡ std_sink_over (W.contents writer) }
+    {
+        StdSink::begun(writer)
+    }
+
+    /// The same, where the caller names the bytes that the writer holds.
+    fn begun(writer: W) -> StdSink<W>
+        ghost held: { Option (List ℕ) }
+        requires { held ≡ W.contents writer }
+        ensures { result ≡ std_sink_over (W.contents writer) }
     {
         StdSink {
             writer,
             faults: 0,
+            first: FirstBytes::new(),
             transcript: Transcript::new(),
         }
+    }
+
+    /// The writer, with all that was written to it. It takes no memory.
+    pub fn into_writer(self) -> W
+        ensures { Holds (shown_std_sink self) (W.contents result) }
+    {
+        self.writer
     }
 }
 
