@@ -89,7 +89,7 @@ class ManyCaptures(unittest.TestCase):
     def test_a_program_that_is_not_there_is_told_once(self):
         self.assertEqual(self.answer(ACLC="/nosuch"), (1, b"", "run: /nosuch is no program\n"))
         if not (TOP / "crates" / "aclc" / "out" / "aclc").exists():
-            self.assertEqual(self.answer(ACLC=""), (1, b"", "run: the program isn't built: ./aclc prove\n"))
+            self.assertEqual(self.answer(ACLC=""), (1, b"", "run: the program isn't built: make/prove\n"))
 
 
 if __name__ == "__main__":

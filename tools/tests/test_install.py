@@ -66,9 +66,9 @@ class Install(unittest.TestCase):
     def setUp(self):
         self.folder = Path(tempfile.mkdtemp())
         self.addCleanup(shutil.rmtree, self.folder)
-        for name in ("include", "compat", "packaging"):
+        for name in ("include", "compat", "packaging", "make"):
             shutil.copytree(TOP / name, self.folder / name)
-        for name in ("aclc", "HANDLES", "VERSION", "LICENSE"):
+        for name in ("HANDLES", "VERSION", "LICENSE"):
             shutil.copy(TOP / name, self.folder / name)
         (self.folder / "crates.txt").write_text("low: std\nacl_c staticlib: core low\n")
         for crate in ("low", "acl_c"):
