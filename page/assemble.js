@@ -1,5 +1,5 @@
 // SPDX-License-Identifier: BSD-3-Clause
-// What the page shows of files that were chosen, made of the module's answers: the same that tools/report puts into a page.
+// What the page shows of files that were chosen, made of the module's answers: the same that aclc report puts into a page.
 import { ROW } from './engine.js';
 import { acceptedList, compareData, listData, Refused } from './asked.js';
 import { timesOf } from './times.js';
@@ -119,7 +119,7 @@ function addCapture(engine, columns, place, file, told, asked) {
   const { bytes, name } = file;
   const runs = columns.lists.map((list) => [engine.classify(list.copy, bytes, asked), engine.classify(list.bytes, bytes, asked)]);
   const [first] = runs[0];
-  if (first.code === NO_MEMORY) throw new Error(`${name} is too large for the memory of this page, of which the module has ${sizeText(engine.memory())}: tools/report takes captures of any length.`);
+  if (first.code === NO_MEMORY) throw new Error(`${name} is too large for the memory of this page, of which the module has ${sizeText(engine.memory())}: aclc report takes captures of any length.`);
   if (first.code && first.code !== FAULTY) throw new Refused('list', columns.lists[0].name, first);
   if (first.code) told.refusals.push(new Refused('capture', name, first).told);
   const texts = runs.map(([copy]) => answersIn(copy.out));

@@ -56,7 +56,7 @@ class Live {
     const { list, old, captures } = this.chosen;
     if (!list) throw new Error('Choose a list of rules first');
     const large = [list, old, ...captures].find((it) => it?.size > MOST_BYTES);
-    if (large) throw new Error(`${large.name} has ${sizeText(large.size)}, and a page has room for some ${sizeText(MOST_BYTES)}: tools/report takes captures of any length`);
+    if (large) throw new Error(`${large.name} has ${sizeText(large.size)}, and a page has room for some ${sizeText(MOST_BYTES)}: aclc report takes captures of any length`);
     return { list, old, captures, maxWords: Number($('words')?.value || 0) };
   }
 
@@ -107,7 +107,7 @@ export function filesView(page) {
   const { live } = page;
   const words = make('input', { id: 'words', type: 'number', min: 1, max: 67108864, placeholder: '2097152', size: 10 });
   return [make('p', { class: 'lead' }, 'Choose files of this machine. Nothing of them leaves this page: it asks for its own files alone.'),
-    make('div', { class: 'cards' }, picker(live, 'list', 'List of rules', 'A rule file. tools/convert makes one of lists of other programs.', false),
+    make('div', { class: 'cards' }, picker(live, 'list', 'List of rules', 'A rule file. aclc convert makes one of lists of other programs.', false),
       picker(live, 'captures', 'Captures', 'pcap or pcapng; several may be chosen.', true), picker(live, 'old', 'Old list', 'To see what the list does otherwise.', false)),
     make('div', { class: 'tools' }, make('button', { type: 'button', id: 'go', disabled: !!live.worker, onclick: () => live.begin() }, 'Show what it does'),
       make('button', { type: 'button', id: 'stop', disabled: !live.worker, onclick: () => live.stop('Stopped') }, 'Stop'),

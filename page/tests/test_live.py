@@ -112,7 +112,7 @@ class Live(Shown):
         os.truncate(large, TOO_LARGE)
         self.choose(list=OFFICE, captures=large)
         self.begin()
-        self.assertIn("large.pcap has 1335.1 MiB, and a page has room for some", self.until_told("tools/report"))
+        self.assertIn("large.pcap has 1335.1 MiB, and a page has room for some", self.until_told("aclc report"))
 
     def test_without_a_list_one_is_asked_for(self):
         self.choose()

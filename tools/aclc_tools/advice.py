@@ -48,7 +48,7 @@ def start(word, line):
         return odd_blank(word)
     for pattern, form in OTHER_LISTS:
         if re.match(pattern, line.lstrip()):
-            return f"This looks like a list of another program: tools/convert {form} makes rules of it."
+            return f"This looks like a list of another program: aclc convert {form} makes rules of it."
     if word[:2] in (b"//", b"--", b"/*") or word[:1] in (b";", b"!", b"%"):
         return "A comment begins with #."
     if re.match(rb"[0-9a-fA-F.:]+/", word):

@@ -200,7 +200,7 @@ def read(name, given, room):
         try:
             list(lines_of("classify", original, packets))
         except Refusal as refusal:
-            return leave(f"{name}: {refusal.message}; tools/check {name} tells more", 2)
+            return leave(f"{name}: {refusal.message}; aclc check {name} tells more", 2)
         fault = faulty.fault
         return leave(f"{name}: the program reads it, and this tool doesn't: line {fault.line}: {fault.kind}", 2)
 

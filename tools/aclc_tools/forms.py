@@ -68,7 +68,7 @@ def head_of(options, form, chain):
     """The first comment of a rule file."""
     data = {"line": f"the {form.what} that decides",
             "verdict": "1 where a rule accepts, 2 where it drops, 3 where it rejects"}
-    head = (f"Made by tools/convert {options.form} of {Path(options.file).name}, {chain}. "
+    head = (f"Made by aclc convert {options.form} of {Path(options.file).name}, {chain}. "
             f"Userdata is {data.get(options.data, options.data)}.")
     return head + (f"\nAssumed: {assume.of(options).told()}." if assume.of(options).told() else "")
 

@@ -4,7 +4,7 @@
 
 PAGE becomes the page with the module of the proved code inside, which packaging/page made. It is opened from a disk.
 NOTE is a file of three lines: `aclc` with the version, what proved the code, and the checksum of the module.
-tools/report makes a page with a report's data inside in the same way.
+aclc report makes a page with a report's data inside in the same way.
 """
 import base64
 import hashlib

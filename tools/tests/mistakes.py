@@ -19,8 +19,8 @@ RULES = [
     ("bad start", "the file is an image", b"ACLT" + bytes(60), "This is an image"),
     ("bad start", "a byte order mark stands first", b"\xef\xbb\xbf" + LINE, "byte order mark"),
     ("bad start", "the text is UTF-16", LINE.decode().encode("utf-16"), "UTF-8"),
-    ("bad start", "it is a list of iptables", b"*filter", "tools/convert"),
-    ("bad start", "it is a list of another firewall", b"permit tcp any any eq 80", "tools/convert cisco"),
+    ("bad start", "it is a list of iptables", b"*filter", "aclc convert"),
+    ("bad start", "it is a list of another firewall", b"permit tcp any any eq 80", "aclc convert cisco"),
     ("bad start", "the @ is missing", LINE[1:], "begins with @"),
     ("bad start", "a comment begins with //", b"// web servers", "A comment begins with #"),
     ("bad address", "`any` in place of a network", b"@any 0.0.0.0/0 0:65535 80:80 6/0xFF", "0.0.0.0/0"),
@@ -121,10 +121,9 @@ CAPTURES = [
 R, C = "guide.rules", "guide.pcap"
 WORDS = [
     ("word 1: missing command", "no words at all", []),
-    ("word 1: unknown command", "`--version`, or another word that is no command", ["--version"]),
-    ("word 1: unknown command", "`--help`, `-h` or `help`", ["--help"]),
-    ("word 1: unknown command", "`--help`, `-h` or `help`", ["-h"]),
-    ("word 1: unknown command", "`--help`, `-h` or `help`", ["help"]),
+    ("word 1: unknown command", "a word that is no command, as `prove`", ["prove"]),
+    ("word 1: unknown command", "a word more after `--help`, `-h` or `--version`", ["--help", "x"]),
+    ("word 1: unknown command", "a word more after `--help`, `-h` or `--version`", ["--version", "x"]),
     ("word 3: missing name", "the capture isn't named", ["classify", R]),
     ("word 3: missing name", "a name of `build`, `compare`, `audit` or `session` is missing", ["build", R]),
     ("word 3: missing name", "a name of `build`, `compare`, `audit` or `session` is missing", ["compare", R]),
@@ -191,7 +190,7 @@ REPLIES = [("`bad line`: a blank within a value, as in `0 : 65535`",
            ("`refused short buffer`", READY + ["build 1000", "classify 1 00000000"], "refused short buffer")]
 ALL_BAD = "`bad line` for each line"
 
-# Lawful rule files that are likely mistakes, and what tools/check says of them.
+# Lawful rule files that are likely mistakes, and what aclc check says of them.
 WARNED = [
     ("bits of `cat=` above the 16", LINE + b" cat=0x10001", "low 16 bits"),
     ("bits after the prefix", b"@10.0.0.1/8 0.0.0.0/0 0:65535 80:80 6/0xFF", "this is 10.0.0.0/8"),

@@ -247,7 +247,7 @@ class Asking(unittest.TestCase):
         (code, printed, said), _ = self.convert("", "aclc-lists: list: line 6: bad address\\n", 3)
         self.assertEqual(code, 0)
         self.assertIn(":6: aclc-lists refuses the list, so these rules are the tool's own: bad address", said)
-        self.assertIn("# Made by tools/convert iptables of fw, INPUT.", printed)
+        self.assertIn("# Made by aclc convert iptables of fw, INPUT.", printed)
 
     def test_of_a_ruleset_it_is_handed_the_table_alone(self):
         others = [{"table": {"family": "ip", "name": "u", "handle": 2}},
@@ -282,7 +282,7 @@ class Asking(unittest.TestCase):
         for words in (["--lenient"], ["--data", "7"], ["--lenient", "--table", "nat", "--chain", "PREROUTING"]):
             (code, printed, _), (asked, _) = self.convert(RULES, "", 0, *words)
             self.assertEqual((code, asked), (0, None), words)
-            self.assertIn("# Made by tools/convert iptables", printed)
+            self.assertIn("# Made by aclc convert iptables", printed)
 
     def test_a_name_that_is_no_program_is_told(self):
         for named, code in (("/nosuch", 101), ("", 0)):

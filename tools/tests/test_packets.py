@@ -440,7 +440,7 @@ class WithoutTheProgram(unittest.TestCase):
         for name in ("explain", "changes", "hits", "same", "dead"):
             code, lines, said = tool(name, "--help")
             self.assertEqual((code, said), (0, ""))
-            self.assertIn(f": {name} [OPTION..] ", lines)
+            self.assertIn(f": aclc {name} [OPTION..] ", lines)
             code, lines, said = tool(name)
             self.assertEqual((code, lines), (2, ""))
             self.assertIn("are required", said)
