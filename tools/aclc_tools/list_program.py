@@ -13,9 +13,9 @@ from pathlib import Path
 from aclc_tools import assume
 from aclc_tools.lists import printable
 from aclc_tools.nftables import table_alone
-from aclc_tools.program import TOP, leave
+from aclc_tools.program import leave, place_of
 
-BUILT = TOP / "crates" / "aclc_lists" / "out" / "aclc_lists"
+BUILT = place_of("aclc-lists")
 WORDS = {("iptables", 4): "iptables", ("iptables", 6): "ip6tables", ("cisco", 4): "cisco", ("cisco", 6): "cisco",
          ("nft", 4): "nft", ("nft", 6): "nft6"}
 DONE, REFUSED = 0, 3
@@ -25,7 +25,7 @@ Written = namedtuple("Written", "lines what number reason")
 
 
 def built_list_program():
-    """The program: what ACLC_LISTS names, or what a build left; None where neither is there, or the name is empty."""
+    """The program: what ACLC_LISTS names, or what a build left or is installed; None where neither is there, or the name is empty."""
     named = os.environ.get("ACLC_LISTS")
     found = BUILT if named is None else Path(named)
     if os.access(found, os.X_OK) and not found.is_dir():

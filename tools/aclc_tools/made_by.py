@@ -9,8 +9,8 @@ from pathlib import Path
 from aclc_tools.program import BUILT, TOP, program
 
 # Where an installation below some folder has the note and the program's page, from the folder of the program on.
-NOTES_AT = "../share/doc/aclc/proof",
-PAGES_AT = "../share/man/man1/aclc.1", "../share/man/man1/aclc.1.gz"
+NOTES_AT = "../../share/doc/aclc/proof", "../share/doc/aclc/proof"
+PAGES_AT = "../../share/man/man1/aclc.1", "../../share/man/man1/aclc.1.gz", "../share/man/man1/aclc.1", "../share/man/man1/aclc.1.gz"
 
 
 def sum_of(path):

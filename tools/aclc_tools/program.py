@@ -9,7 +9,6 @@ from pathlib import Path
 from aclc_tools.printing import shown
 
 TOP = Path(__file__).resolve().parents[2]
-BUILT = TOP / "crates" / "aclc" / "out" / "aclc"
 # All that this run told on standard error.
 NOTES = []
 
@@ -21,14 +20,24 @@ class Ran:
         self.code, self.lines, self.message = code, lines, message
 
 
+def place_of(name):
+    """Where a proved program is: in a checkout what a build leaves, and else what is installed with the tools."""
+    crate = name.replace("-", "_")
+    is_checkout = (TOP / "crates.txt").is_file()
+    return TOP / "crates" / crate / "out" / crate if is_checkout else TOP.parents[1] / "libexec" / "aclc" / name
+
+
+BUILT = place_of("aclc")
+
+
 def program():
-    """What starts the program: what ACLC names, what a build left, aclc on the path, or this repository's script."""
+    """What starts the program: what ACLC names, what a build left or is installed, aclc on the path, or this script."""
     named = os.environ.get("ACLC") or built_program() or shutil.which("aclc")
     return str(named or TOP / "aclc")
 
 
 def built_program():
-    """The built program, or None: what ACLC names, or what a build left."""
+    """The built program, or None: what ACLC names, or what a build left or is installed."""
     named = os.environ.get("ACLC")
     found = Path(named) if named else BUILT
     return found if os.access(found, os.X_OK) and not found.is_dir() else None

@@ -14,6 +14,7 @@ from aclc_tools.program import TOP
 RT = """#!/bin/sh
 case $1 in
 doc) echo "$KIT/START.md" ;;
+version) echo "kit 1" ;;
 ci) mkdir -p crates/low/out/rlib/low.rlib ;;
 esac
 """
@@ -104,7 +105,7 @@ class Install(unittest.TestCase):
         self.assertEqual({name for name in listed if not name.endswith("/")},
                          self.files() - {"lib/other.a", "share/doc/libaclc/installed"})
         self.assertNotIn("lib/pkgconfig/", listed)
-        self.assertTrue((self.prefix / "share/doc/libaclc/proof").read_text().startswith("logic=proved functions=1"))
+        self.assertTrue((self.prefix / "share/doc/libaclc/proof").read_text().startswith("logic=proved kit=kit 1 sources="))
         self.assertEqual(self.run_script("include/install", self.prefix)[0], 0)
         self.assertEqual(self.run_script("include/install", "--uninstall", self.prefix)[0], 0)
         self.assertEqual(self.files(), {"lib/other.a"})
