@@ -26,12 +26,20 @@ export function kindsOf(packets) {
   return found;
 }
 
-// The first category in which two lists answer an outcome's packets differently, or -1.
+// How many packets a line may decide that was left out of a list.
+export function openOf(report) {
+  const { packets } = report;
+  const isOpen = (place, list) => report.categories.some((_, category) => report.lists[list].entries[packets.decider(place, list, category)]?.leftOut);
+  return packets?.outcomes.reduce((sum, { kind, total }, place) => sum + (isKeyed(kind) && report.lists.some((_, list) => isOpen(place, list)) ? total : 0), 0) ?? 0;
+}
+
+// The first category in which two lists answer an outcome's packets differently, or -1. What a line may decide that was left out isn't known.
 export function changedIn(report, outcome) {
   const { packets } = report;
   if (!report.old || !isKeyed(packets.outcomes[outcome].kind)) return -1;
   return report.categories.findIndex((_, category) => {
     const [one, other] = [packets.decider(outcome, 0, category), packets.decider(outcome, 1, category)];
+    if (report.old.entries[one]?.leftOut || report.list.entries[other]?.leftOut) return false;
     return report.answer(report.old, one) !== report.answer(report.list, other);
   });
 }

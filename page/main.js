@@ -2,7 +2,7 @@
 // The page: its head, its views, and what is chosen in them.
 import { count, make, many } from './text.js';
 import { contentOf, unpacked } from './data.js';
-import { changedIn, hitsOf, kindsOf, pairsOf } from './counts.js';
+import { changedIn, hitsOf, kindsOf, openOf, pairsOf } from './counts.js';
 import { everything } from './filters.js';
 import { rulesView } from './rules_view.js';
 import { packetsView } from './packets_view.js';
@@ -81,6 +81,8 @@ class Page {
       parts.push(`${many(packets.total, 'packet')}: ${count(kinds[4])} IPv4, ${count(kinds[6])} IPv6, ${count(kinds[0])} other, ${count(kinds[1])} short`);
     }
     if (report.old && packets?.total) parts.push(this.changedText());
+    const open = openOf(report);
+    if (open) parts.push(`${many(open, 'packet')} not decided, since lines were left out`);
     if (report.refusals.length) parts.push(`${many(report.refusals.length, 'file')} refused`);
     parts.push(`${report.made.version ? `aclc ${report.made.version}` : 'aclc'}, ${report.made.proof ? 'proved' : 'no proof known'}, ${report.made.when} UTC`);
     return parts.join(' · ');

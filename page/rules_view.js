@@ -27,6 +27,8 @@ export function deadText(list, entry) {
 
 // The second line of a row: what covers the rule, or the least key.
 function below(list, entry, category) {
+  if (entry.leftOut) return make('span', { class: 'mark' }, `left out, so that packets which come to it aren’t decided: ${entry.leftOut}`);
+  if (entry.notHere) return make('span', { class: 'note' }, `can’t decide under what is assumed (${list.assumed}): ${deadText(list, { dead: entry.notHere })}`);
   if (entry.dead) return make('span', { class: 'note' }, deadText(list, entry));
   if (entry.unknown) return make('span', { class: 'note' }, 'it isn’t known whether it can decide');
   const key = leastOf(entry, category);

@@ -13,6 +13,9 @@ function sideOf(report, list, place, what) {
 
 function familyOf(report, told) {
   const name = `IPv${told.family}`;
+  if (told.same === null && told.open) {
+    return make('section', { class: 'card differ' }, make('h3', {}, `${name}: couldn’t tell`), make('p', {}, 'Lines were left out that may decide otherwise in one list.'));
+  }
   if (told.same === null) return make('section', { class: 'card' }, make('h3', {}, `${name}: a part couldn’t be compared`));
   if (told.same) {
     return make('section', { class: 'card same' }, make('h3', {}, `${name}: the same`),

@@ -10,7 +10,8 @@ from collections import namedtuple
 
 from aclc_tools import lists, rule_file
 from aclc_tools.advice import no_list
-from aclc_tools.forms import FORMS, assumed, converted
+from aclc_tools.boxes import lines as lines_of
+from aclc_tools.forms import FORMS, assumed, complete, converted
 from aclc_tools.printing import shown
 from aclc_tools.program import leave, note, read_file
 
@@ -26,23 +27,31 @@ MARKS = {"nft": r'\A\s*\{(?s:.)*"nftables"', "iptables": r"(?m)^\*[a-z]+\s*$", "
          "azure": r'\A\s*[\[{](?s:.)*"(securityRules|destinationPortRange)"', RULES: r"(?m)^[ \t]*@"}
 # What several forms have in common, where nothing else tells which of them it is.
 COMMON = ((r"(?m)^[^\S\n]*ipv6 access-list \S", ("cisco", "nxos", "iosxr")),)
-SAID = re.compile(r"# [a-z]+ (\d+)(?: \((\w+)\))?: (.*)")
-EVERYWHERE = {4: b"@0.0.0.0/0 0.0.0.0/0 0:65535 0:65535 0/0", 6: b"@::/0 ::/0 0:65535 0:65535 0/0"}
 STANDARD_INPUT = "-", "/dev/stdin", "/proc/self/fd/0", "/dev/fd/0"
 # Options that mean nothing for a rule file.
 OF_OTHERS = "chain", "table", "list", "family", "lenient", "assume"
-Chains = namedtuple("Chains", "chains start families")
+# The chains of a list, the one that is meant, the families of its rules, and what else may decide, if it was left out.
+Chains = namedtuple("Chains", "chains start families beside")
+# A line that was left out: the file, what numbers it, its number and text, and why; and the rule that is known of it.
+LeftOut = namedtuple("LeftOut", "file what number text why rule")
+NOT_DECIDED = "not decided"
+# The forms whose lines say all that they do, whether they match or not: no jumps and returns, nor names that stand
+# elsewhere in the file, but those of groups.
+JUMPING = "iptables", "nft"
+PLAIN = ("iptables", "cisco", "nxos", "iosxr", "aws", "azure")
+NAMES = re.compile(r"\b(object-group|addrgroup|portgroup|net-group|port-group|time-range|evaluate|reflect|dynamic)\b")
 
 
 class Entry:
     """A line of a list as it was written, and the rules that say it.
 
     Boxes have what it matches by itself, if that is known. An end is a policy, or what a list does if no line matches.
+    The rules of a line that was left out are those of the packets that it may decide; its verdict is NOT_DECIDED.
     """
 
     def __init__(self, what, number, text, verdict=None, boxes=None):
         self.what, self.number, self.text, self.verdict, self.boxes = what, number, text, verdict, boxes
-        self.rules, self.is_end = [], False
+        self.rules, self.is_end, self.why = [], False, None
 
     def place(self):
         """Where it stands, in words."""
@@ -58,12 +67,15 @@ class AnyList:
     """A list: its rules in the order of their places, and its entries in the order of its lines.
 
     A list of another program has its chains, and the entries also in the order in which packets come to them, each
-    under the number and the verdict of its rules.
+    under the number and the verdict of its rules. If lines were left out, `beneath` has under a rule's number the lines
+    that may decide its packets, and the entry that does if none of them does.
     """
 
-    def __init__(self, name, form, rules, entries, chains=None, by_key=None):
+    def __init__(self, name, form, rules, entries, chains=None, by_key=None, left_out=(), beneath=None, content=None):
         self.name, self.form, self.rules, self.entries = name, form, rules, entries
-        self.chains, self.by_key = chains, by_key
+        self.chains, self.by_key, self.left_out, self.beneath, self.content = chains, by_key, left_out, beneath or {}, content
+        # What reads its chains without what is assumed, if something is.
+        self.assumed, self.read_free = "", None
         self.entry_of = {rule.ordinal: entry for entry in entries for rule in entry.rules}
         self.has_categories = any("cat" in rule.given for rule in rules)
         order = list(by_key.values()) if by_key else entries
@@ -72,6 +84,29 @@ class AnyList:
     def entry(self, rule):
         """The entry that a rule says."""
         return self.entry_of[rule.ordinal]
+
+    def does_what_it_says(self, left):
+        """Whether a line that was left out decides the same in each list in which it has the same text and place."""
+        return (self.form in PLAIN and left.rule.verdict in lists.DECIDING and not NAMES.search(left.text)
+                and (bool(left.rule.boxes) or self.form != "iptables"))
+
+    def below(self, rule):
+        """The entry that decides if no line does that was left out."""
+        return self.beneath[rule.ordinal][1] if rule.ordinal in self.beneath else self.entry(rule)
+
+    def may_lead_anywhere(self):
+        """Whether it isn't known of a line that was left out that it decides, if it matches."""
+        return any(self.form in JUMPING and not it.rule.boxes and it.rule not in self.chains.beside for it in self.left_out)
+
+    def told_left_out(self):
+        """What is told of the lines that were left out, for a program."""
+        return [{"file": shown(str(it.file)), "line": it.number, "text": it.text, "why": it.why} for it in self.left_out]
+
+    def print_left_out(self):
+        """The same as text."""
+        for it in self.left_out:
+            place = f"{it.what} {it.number}" if it.number else "the list"
+            print(f"left out: {shown(str(self.name))}: {place}: {it.text}\n  {it.why}")
 
 
 def add_options(parser):
@@ -160,7 +195,7 @@ def of_other(name, form, text, given):
     what = FORMS[form].what
     try:
         text.encode()
-        found = converted(argparse.Namespace(**{**options, "form": form, "file": str(name)}), text)
+        found = converted(argparse.Namespace(**{**options, "form": form, "file": str(name)}), text, True)
     except lists.CantSay as said:
         for it in said.notes:
             tell(name, what, *it)
@@ -170,9 +205,12 @@ def of_other(name, form, text, given):
         leave(f"{name}: character {error.start} of it isn't UTF-8", 2)
     for it in found.notes:
         tell(name, what, *it)
-    families = {box.family for _, box in found.flattener.found}
-    chains = Chains(found.flattener.chains, found.flattener.start, families)
-    return with_entries(name, form, found.lines, chains, text.split("\n") if what == "line" else None)
+    listed = Built(name, form, found.flattener, text).list()
+    if options.get("assume"):
+        free = {**options, "assume": None, "lenient": True, "form": form, "file": str(name)}
+        listed.assumed = options["assume"].told()
+        listed.read_free = lambda: FORMS[form].reader.convert(text.split("\n"), complete(argparse.Namespace(**free)))
+    return listed
 
 
 def tell(name, what, number, text, reason):
@@ -180,60 +218,91 @@ def tell(name, what, number, text, reason):
     note((f"{name}: {what} {number}" if number else str(name)) + f": {reason}" + (f"\n    {text}" if text else ""))
 
 
-def deciding(chains):
-    """The rules that decide, of the chain that is meant and of all that it leads to, in the order in which packets come
-    to them, each with whether it stands in the chain that is meant."""
-    met, waiting = set(), [iter([(None, chains.start)])]
+def deciding(flattener):
+    """The rules that decide or were left out, of the chain that is meant and of all that it leads to, in the order in
+    which packets come to them, each with whether it stands in the chain that is meant."""
+    met, waiting = set(), [iter([(None, flattener.start)])]
     while waiting:
         rule, target = next(waiting[-1], (None, None))
-        if rule and rule.verdict in lists.DECIDING and not rule.reason:
+        if rule and (rule.number in flattener.left_out if rule.reason else rule.verdict in lists.DECIDING):
             yield rule, len(waiting) == 2
         if not rule and not target:
             waiting.pop()
-        elif target in chains.chains and target not in met:
+        elif target in flattener.chains and target not in met:
             met.add(target)
-            waiting.append(iter([(it, it.target) for it in chains.chains[target].rules]))
+            waiting.append(iter([(it, it.target) for it in flattener.chains[target].rules]))
 
 
-def with_entries(name, form, lines, chains, written):
-    """A list of the lines of its rule file, in which a comment before its rules says what each entry is."""
-    what, entries, here, rules = FORMS[form].what, {}, None, []
-    for rule, is_in_chain in deciding(chains):
-        entry = entries.setdefault((rule.number, rule.verdict), Entry(what, rule.number, rule.text, rule.verdict))
-        if is_in_chain:
-            entry.boxes = [*(entry.boxes or ()), *rule.boxes]
-    policy = chains.chains[chains.start].policy
-    if policy and policy.verdict in lists.DECIDING:
-        ends = [entries.setdefault((policy.number, policy.verdict),
-                                   Entry(what, policy.number, policy.text, policy.verdict))]
-    else:
-        ends = []
-    for place, line in enumerate(lines, 1):
-        said = SAID.fullmatch(line)
-        if said:
-            key = int(said.group(1)), said.group(2)
-            here = entries.setdefault(key, Entry(what, key[0], said.group(3), key[1]))
-        elif not line.startswith("#"):
-            rules.append(rule_file.read_rule(line.encode(), place, len(rules) + 1))
-            here.rules.append(rules[-1])
-    if FORMS[form].end and not ends:
-        ends.append(end_of(what, FORMS[form].end, rules, len(lines)))
-        entries[None] = ends[0]
-    for entry in ends:
-        entry.is_end = True
-    for entry in entries.values():
-        text = written[entry.number - 1] if written and entry.number else entry.text
-        entry.text = shown(" ".join(text.split()))
-    listed = list(entries.values())
-    listed = sorted(listed, key=lambda it: (it.number is None, it.number)) if written else listed
-    return AnyList(name, form, rules, listed, chains, entries)
+class Built:
+    """A list of another program that is made of what its lines decide."""
 
+    def __init__(self, name, form, flattener, text):
+        self.name, self.form, self.flattener, self.text = name, form, flattener, text
+        self.what = FORMS[form].what
+        self.written = text.split("\n") if self.what == "line" else None
+        self.entries, self.rules, self.beneath, self.left = {}, [], {}, {}
 
-def end_of(what, verdict, rules, place):
-    """What a list does with packets that no line of it matches; its rules are added to the others."""
-    end = Entry(what, None, "what no line matches", verdict)
-    for family in sorted({rule.family for rule in rules}):
-        place += 1
-        rules.append(rule_file.read_rule(EVERYWHERE[family] + b" data=0", place, len(rules) + 1))
-        end.rules.append(rules[-1])
-    return end
+    def text_of(self, rule):
+        """The text of a rule as it is printed: that of its line, if lines number the rules."""
+        text = self.written[rule.number - 1] if self.written and rule.number else rule.text
+        return shown(" ".join(text.split()))
+
+    def entry_of(self, rule):
+        """The entry of a rule that decides."""
+        if rule is self.flattener.policy and self.flattener.end:
+            key, number, text = None, None, "what no line matches"
+        else:
+            key, number, text = (rule.number, rule.verdict), rule.number, self.text_of(rule)
+        return self.entries.setdefault(key, Entry(self.what, number, text, rule.verdict))
+
+    def entry_of_left_out(self, rule):
+        """The entry of a line that was left out."""
+        key = rule.number, NOT_DECIDED
+        if key not in self.entries:
+            self.entries[key] = Entry(self.what, rule.number, self.text_of(rule), NOT_DECIDED)
+            self.entries[key].why = rule.reason
+            self.left[key] = LeftOut(self.name, self.what, rule.number, self.text_of(rule), rule.reason, rule)
+        return self.entries[key]
+
+    def add_lines(self):
+        """Makes the entries, in the order in which packets come to them."""
+        for rule in self.flattener.beside:
+            self.entry_of_left_out(rule)
+        for rule, is_in_chain in deciding(self.flattener):
+            if rule.reason:
+                self.entry_of_left_out(rule)
+                continue
+            entry = self.entry_of(rule)
+            if is_in_chain:
+                entry.boxes = [*(entry.boxes or ()), *rule.boxes]
+        if self.flattener.policy.verdict in lists.DECIDING:
+            self.entry_of(self.flattener.policy).is_end = True
+
+    def add_rules(self):
+        """Makes the rules of the boxes that are decided, each of its entry, or of the first line that may decide it."""
+        # Of packets of a family that no line is about nothing is said, though they come to the list's end.
+        with_lines = {it.box.family for it in self.flattener.found if it.rule is not self.flattener.policy or it.unless}
+        for rule, box, unless in self.flattener.found:
+            if box.family not in with_lines and self.flattener.end:
+                continue
+            entry = self.entry_of(rule)
+            left = [self.entry_of_left_out(it) for it in unless]
+            data = rule.number if entry.number is not None else 0
+            for line in lines_of(box, f"data={data}"):
+                made = rule_file.read_rule(line.encode(), len(self.rules) + 1, len(self.rules) + 1)
+                self.rules.append(made)
+                (left[0] if left else entry).rules.append(made)
+                if left:
+                    self.beneath[made.ordinal] = tuple(left), entry
+
+    def list(self):
+        """The list."""
+        self.add_lines()
+        self.add_rules()
+        entries = list(self.entries.values())
+        if self.written:
+            entries.sort(key=lambda it: (it.number is None, it.number or 0))
+        chains = Chains(self.flattener.chains, self.flattener.start, {rule.family for rule in self.rules},
+                        self.flattener.beside)
+        return AnyList(self.name, self.form, self.rules, entries, chains, self.entries, list(self.left.values()),
+                       self.beneath, self.text)

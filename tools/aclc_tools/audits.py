@@ -1,6 +1,7 @@
 # SPDX-License-Identifier: BSD-3-Clause
 """Which lines of a list decide no packet at all, and which earlier lines cover each."""
-from aclc_tools import answers, covers, parts
+from aclc_tools import answers, covers, parts, reach
+from aclc_tools.lists import CantSay
 from aclc_tools.program import leave
 
 
@@ -35,12 +36,34 @@ class Audit:
     def dead(self):
         """The entries that decide no packet, and those of which it isn't known. An end may well decide none."""
         unknown = set().union(*(numbers for *_, numbers in self.left)) - self.live
+        maybe = {below for number, (_, below) in self.listed.beneath.items() if number in self.live | unknown}
         found, open_ones = [], []
         for entry in self.listed.entries:
             numbers = {rule.ordinal for rule in entry.rules}
-            if not numbers & self.live and not entry.is_end:
-                (open_ones if numbers & unknown else found).append(entry)
+            if not numbers & self.live and not entry.is_end and not entry.why:
+                is_open = numbers & unknown or entry in maybe or self.may_decide(entry)
+                (open_ones if is_open else found).append(entry)
         return found, open_ones
+
+    def may_decide(self, entry):
+        """Whether lines that were left out may send packets to an entry."""
+        listed = self.listed
+        if not listed.left_out:
+            return False
+        if listed.may_lead_anywhere():
+            return True
+        return reach.Reach(listed.chains.chains, listed.chains.start, (4, 6)).may_decide(entry.number, entry.verdict)
+
+    def not_under_assumption(self, dead):
+        """Those of some dead entries that may decide packets of which something else holds than is assumed."""
+        if not self.listed.read_free or not dead:
+            return []
+        try:
+            chains, start, families = self.listed.read_free()
+        except CantSay:
+            return dead
+        free = reach.Reach(chains, start, families)
+        return [entry for entry in dead if free.may_decide(entry.number, entry.verdict)]
 
 
 class Covers:
@@ -69,7 +92,7 @@ class Covers:
         """The entries other than its own whose rules rank above a place and are near, with these rules' pieces."""
         found = {}
         for rule in (self.ranked[it] for it in self.near[family].places(pieces) if it < rank):
-            entry = self.listed.entry(rule)
+            entry = self.listed.below(rule)
             if entry is not own and rule.categories >> category & 1:
                 found.setdefault(entry, []).append(self.pieces[rule.ordinal])
         return list(found.items())

@@ -111,7 +111,7 @@ def boxes_of(sources, destinations, found):
 
 def read(number, text, words, family, dialect, groups):
     """The rule of an entry that begins with permit or deny; its reason where it can't be said."""
-    verdict = VERDICTS[words.next()]
+    verdict, known = VERDICTS[words.next()], []
     try:
         grouped = bool(dialect.service_group) and words.peek() == dialect.service_group
         found = services(words, family, dialect, groups)
@@ -120,7 +120,10 @@ def read(number, text, words, family, dialect, groups):
         if grouped and (source_ports, destination_ports) != (None, None):
             raise CantSay("ports stand after a group of services, which has its own")
         found = found if grouped else [Service(found[0].protocols, source_ports, destination_ports)]
+        known = boxes_of(source, destination, found)
         skip_options(words, dialect, found)
-        return Rule(number, text, boxes_of(source, destination, found), verdict, None, None)
+        return Rule(number, text, known, verdict, None, None)
     except CantSay as said:
-        return Rule(number, text, [], verdict, None, said.reason)
+        # An option that compares something more leaves fewer packets; what another word does isn't known.
+        narrows = said.reason.startswith("it compares ")
+        return Rule(number, text, known if narrows else [], verdict, None, said.reason)

@@ -198,7 +198,7 @@ class Configuration:
 def decides_all_icmp(rules):
     """Whether a rule decides all packets of ICMP of IPv6."""
     whole = boxes.whole(6)._replace(protocols=ICMP6)
-    return any(boxes.meet(whole, box) == whole for rule in rules for box in rule.boxes)
+    return any(boxes.meet(whole, box) == whole for rule in rules if not rule.reason for box in rule.boxes)
 
 
 def with_end(found, rules, end_permits):

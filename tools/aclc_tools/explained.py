@@ -6,6 +6,8 @@ from aclc_tools import answers, capture, keys, packet_words, walks
 from aclc_tools.program import leave
 
 NOTHING = "no rule matches"
+# The outcome of a packet that a line may decide which was left out.
+OPEN = "not decided"
 # No number of a packet has more, and Python reads no number of thousands.
 MOST_DIGITS = 20
 # What a user names, a packet's frame with its link type, and its key, or why it has none.
@@ -82,7 +84,7 @@ def outcome(listed, packet, category, number):
 def why(loser, winner):
     """Why an entry that matches doesn't decide; each is an entry with its rule, or with None."""
     (entry, rule), (first, winning) = loser, winner
-    by_priority = rule and ("pri" in rule.given or "pri" in winning.given)
+    by_priority = rule and winning and ("pri" in rule.given or "pri" in winning.given)
     if by_priority and rule.priority != winning.priority:
         return f"its priority {rule.priority} is less than {winning.priority}"
     if entry.verdict:
@@ -110,7 +112,21 @@ def rows_of(packet, group, found):
     if not found:
         yield {**base, "outcome": "unmatched",
                "why": NOTHING if packet.key else f"a packet that is {packet.kind} has no rule"}
+    # Lines that were left out come first; the first line after them decides if none of them does.
+    last = next((place for place, (entry, _) in enumerate(found) if not entry.why), len(found))
     for place, (entry, rule) in enumerate(found):
-        yield {**base, "outcome": "loses" if place else "decides", "place": entry.place(), "line": entry.number,
-               "verdict": entry.verdict, "userdata": rule.userdata if rule else None, "rule": entry.text,
-               "why": why((entry, rule), found[0]) if place else None}
+        is_open = entry.why and place < last
+        outcome_of = OPEN if is_open else "loses" if place > last else "may" if last else "decides"
+        reason = (f"it was left out, and may decide: {entry.why}" if is_open else
+                  why((entry, rule), found[last]) if place > last else
+                  "it decides if no line does that was left out" if last else None)
+        yield {**base, "outcome": outcome_of, "place": entry.place(), "line": entry.number,
+               "verdict": None if entry.why else entry.verdict, "userdata": rule.userdata if rule and not entry.why else None,
+               "rule": entry.text, "why": reason}
+
+
+def left_out_rows(listed):
+    """A row for each line that was left out."""
+    base = dict.fromkeys(("packet", "words", "categories", "outcome", "place", "line", "verdict", "userdata", "rule", "why"))
+    for it in listed.told_left_out():
+        yield {**base, "outcome": "left out", "file": it["file"], "line": it["line"], "rule": it["text"], "why": it["why"]}

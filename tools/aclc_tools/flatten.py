@@ -30,6 +30,8 @@ SOME, NONE, BACK = "some", "none", "back"
 Step = namedtuple("Step", "rule part next")
 # A place in a chain, and the place after the jump that led there.
 Frame = namedtuple("Frame", "chain place caller")
+# A rule that decides a box, unless one of the rules does that were left out before it and whose boxes hold it.
+Decided = namedtuple("Decided", "rule box unless")
 
 
 def steps_of(chain):
@@ -67,16 +69,19 @@ def check_jumps(chains):
 class Flattener:
     """The rules of one chain and all that it leads to, as boxes in the order in which they decide."""
 
-    def __init__(self, chains, lenient, end=None):
-        """With `end`, the verdict of a list's end that no rule says, that end is written too."""
-        self.chains, self.lenient, self.end = chains, lenient, end
+    def __init__(self, chains, lenient, end=None, tracks=False, beside=()):
+        """With `end`, the verdict of a list's end that no rule says, that end is written too. If it tracks what is left
+        out, each box that is decided has the rules that were left out and may decide it; `beside` may decide all."""
+        self.chains, self.lenient, self.end, self.tracks = chains, lenient, end, tracks
         self.found, self.left_out, self.met = [], {}, {}
+        # The rules that were left out on the way to here, and whose boxes hold what is followed.
+        self.beside, self.unless = tuple(beside), list(beside) if tracks else []
         self.count = self.steps = self.depth = 0
         self.most, self.policy, self.start = MOST_RULES, None, None
         self.ways, self.idle_chains = {}, set()
 
     def list_of(self, name, families):
-        """What each rule decides: a rule and its box, in order."""
+        """What each rule decides, in order."""
         policy, self.start = self.chains[name].policy, name
         if not policy:
             raise CantSay(f"chain {name} has no policy: packets come to it from other chains alone")
@@ -91,7 +96,7 @@ class Flattener:
 
     def idle(self):
         """The rules that were met and decide nothing: they only log or count, or nothing is left for them."""
-        deciding = {rule.number for rule, _ in self.found}
+        deciding = {it.rule.number for it in self.found}
         return [rule for number, rule in sorted(self.met.items()) if number not in deciding
                 and number not in self.left_out and rule.verdict in (*DECIDING, PASS)]
 
@@ -100,7 +105,7 @@ class Flattener:
         self.count += boxes.size(box)
         if self.count > self.most:
             raise CantSay(f"more than {MOST_RULES} rules would be needed", rule.number, rule.text)
-        self.found.append((rule, box))
+        self.found.append(Decided(rule, box, tuple(self.unless)))
 
     def may_take(self, rule):
         """Whether a rule can be said; where that isn't asked for leniently, what can't be said ends the conversion."""
@@ -121,7 +126,9 @@ class Flattener:
         self.depth += 1
         if self.depth > MOST_NESTED:
             raise CantSay(f"jumps and returns nest more than {MOST_NESTED} times in chain {frame.chain}")
+        length = len(self.unless)
         decided = self.walk(frame, box, to_end)
+        del self.unless[length:]
         self.depth -= 1
         return decided
 
@@ -133,15 +140,31 @@ class Flattener:
             self.steps += 1
             if self.steps > MOST_STEPS:
                 raise CantSay("the chains lead to too many ways", step.rule.number, step.rule.text)
-            if not self.may_take(step.rule) or not step.part:
-                continue
-            met = boxes.meet(box, step.part)
-            left = self.take(step.rule, met, (frame, place), box, to_end) if met else SOME
+            if not self.may_take(step.rule):
+                left = self.pass_over(step, frame, box, to_end)
+            else:
+                met = step.part and boxes.meet(box, step.part)
+                left = self.take(step.rule, met, (frame, place), box, to_end) if met else SOME
             if left != SOME:
                 return left == NONE
         if to_end:
             self.leave(frame.caller, box)
         return to_end
+
+    def pass_over(self, step, frame, box, to_end):
+        """Goes on after a rule that is left out. What it may match is followed apart from the rest, if that is tracked."""
+        if not self.tracks or step.rule.number not in self.left_out or any(it is step.rule for it in self.unless):
+            return SOME
+        met = boxes.meet(box, step.part) if step.part else box
+        if met == box and to_end:
+            self.unless.append(step.rule)
+        elif met:
+            length = len(self.unless)
+            self.unless.append(step.rule)
+            self.follow(frame._replace(place=step.next), met, True)
+            del self.unless[length:]
+            return NONE if met == box else SOME
+        return SOME
 
     def take(self, rule, met, here, box, to_end):
         """What a rule does with a box that it matches; what is left of the chain's box after it."""
@@ -159,6 +182,7 @@ class Flattener:
         """Decides first what a wider box has too much, then that box; undone where the box itself takes fewer rules."""
         (wider, holes), (onward, after) = wide, ways
         before, length, depth = (self.count, self.most), len(self.found), self.depth
+        passed = len(self.unless)
         self.most = min(self.most, self.count + boxes.size(met))
         try:
             for hole in holes:
@@ -168,7 +192,7 @@ class Flattener:
             if self.count <= self.most or self.most == before[1]:
                 raise
             (self.count, self.most), self.depth = before, depth
-            del self.found[length:]
+            del self.found[length:], self.unless[passed:]
             return False
         self.most = before[1]
         return True
@@ -204,7 +228,7 @@ class Flattener:
 
     def dying(self):
         """The first of the last rules of each chain that decide nothing, where lines were left out."""
-        deciding = {rule.number for rule, _ in self.found}
+        deciding = {it.rule.number for it in self.found}
         for name in reached(self.chains, self.start) if self.left_out else ():
             last = None
             for rule in self.chains[name].rules:
@@ -256,12 +280,12 @@ def idle_chains(chains):
 def write(flattener, head, what, data="line"):
     """The lines of a rule file: what decides, each rule's text before its lines."""
     yield from (f"# {line}" for line in head.split("\n"))
-    for _, rule in sorted(flattener.left_out.items()):
+    for rule in (*flattener.beside, *(rule for _, rule in sorted(flattener.left_out.items()))):
         yield f"# left out, {rule.reason}: {what} {rule.number}: {printable(rule.text)}"
     for rule in flattener.idle():
         yield f"# decides nothing: {what} {rule.number}: {printable(rule.text)}"
     last = None
-    for rule, box in flattener.found:
+    for rule, box, _ in flattener.found:
         if (rule.number, rule.verdict) != last:
             yield f"# {what} {rule.number} ({rule.verdict}): {printable(rule.text)}"
         last = rule.number, rule.verdict

@@ -78,8 +78,9 @@ def end_of(form, data):
     return None if data == "line" else form.end
 
 
-def converted(options, text):
-    """The rule file of a list, with all that is told of it; CantSay where one can't be said."""
+def converted(options, text, tracks=False):
+    """The rule file of a list, with all that is told of it; CantSay where one can't be said. If it tracks what is left
+    out, each box also has the rules that may decide it, and the end of the list is written."""
     options, form = complete(options), FORMS[options.form]
     read = form.reader.convert(text.split("\n"), options)
     read = read if isinstance(read, lists.Read) else lists.Read(*read)
@@ -90,7 +91,9 @@ def converted(options, text):
     if dropping and not options.lenient:
         raise lists.CantSay(f"{dropping.reason}; --lenient leaves it out", dropping.number, dropping.text,
                             [note for note, it in zip(notes, read.asides) if it is not dropping])
-    flattener = flatten.Flattener(read.chains, options.lenient, end_of(form, options.data))
+    beside = [lists.Rule(it.number, it.text, [], lists.DROP, None, it.reason) for it in read.asides if it.drops]
+    end = form.end if tracks else end_of(form, options.data)
+    flattener = flatten.Flattener(read.chains, options.lenient, end, tracks, beside)
     flattener.list_of(read.chain, read.families)
     lines = list(flatten.write(flattener, head_of(options, form, read.chain), form.what, options.data))
     return Converted(lines, [rule for _, rule in sorted(flattener.left_out.items())], notes + list(flattener.notes()),

@@ -102,7 +102,10 @@ class Reading:
                 self.note(f"it matches {iptables_options.REASONS.get(match, f'what {match} compares')}")
         for option in line.options:
             self.attempt(self.take, option)
+        before = self.reason
         self.attempt(self.match.check)
+        # Ports of protocols that have none say nothing.
+        self.broken = self.reason != before
 
     def note(self, reason):
         """Keeps the first reason why the rule can't be said."""
@@ -247,5 +250,7 @@ def read_rule(saved, chain, family, assumption=assume.NOTHING):
         raise Malformed(said.reason, number, text) from None
     verdict, goal = verdict_of(line)
     if verdict == PASS or reading.reason:
-        return Rule(number, text, [], verdict, goal, reading.reason if verdict != PASS else None)
+        # Each option leaves fewer packets, so that those that are read hold all that the rule may match.
+        known = reading.match.boxes if verdict != PASS and not reading.broken else []
+        return Rule(number, text, known, verdict, goal, reading.reason if verdict != PASS else None)
     return Rule(number, text, reading.match.boxes, verdict, goal, None)

@@ -2,7 +2,7 @@
 """What counts as the answer of a list, so that the answers of two lists can be compared."""
 import re
 
-from aclc_tools.any_list import RULES
+from aclc_tools.any_list import NOT_DECIDED, RULES
 from aclc_tools.program import leave
 
 CHOICES = {"verdict": "what a list of another program does: accept or drop",
@@ -42,6 +42,11 @@ def label(listed, rule, data):
     if rule is None:
         return 0 if data in ("data", "line") else None
     entry = listed.entry(rule)
+    return NOT_DECIDED if entry.why else of_entry(rule, entry, data)
+
+
+def of_entry(rule, entry, data):
+    """The answer of a rule if this entry decides."""
     if data == "text":
         return text_label(rule, entry)
     if data == "verdict":
@@ -52,6 +57,16 @@ def label(listed, rule, data):
 def of_list(listed, data):
     """The answer of each rule, by its place, with that of no rule before them."""
     return [label(listed, rule, data) for rule in (None, *listed.rules)]
+
+
+def whatever(listed, data):
+    """The answer of each rule, and beside it the lines that may decide otherwise, by what they say; that of no rule first."""
+    found = []
+    for rule in (None, *listed.rules):
+        left, entry = listed.beneath.get(rule.ordinal, ((), None)) if rule else ((), None)
+        texts = tuple(COUNTS.sub("", it.text) for it in left)
+        found.append((texts, of_entry(rule, entry or listed.entry(rule), data) if rule else label(listed, rule, data)))
+    return found
 
 
 def told(answer, data):

@@ -3,9 +3,9 @@
 
 Numbers that are compared are written in hexadecimal digits of their field's width, in which they sort as numbers.
 """
-from aclc_tools import audits, labels, lists, parts
+from aclc_tools import audits, boxes, labels, lists, parts
 from aclc_tools.answers import Refusal
-from aclc_tools.any_list import RULES
+from aclc_tools.any_list import NOT_DECIDED, RULES
 from aclc_tools.program import leave
 
 WIDTHS = {4: (8, 8, 4, 4), 6: (32, 32, 4, 4)}
@@ -43,7 +43,17 @@ def chains_of(listed, places):
             entry = listed.by_key.get((rule.number, rule.verdict)) if rule.verdict in lists.DECIDING else None
             if not rule.reason and rule.verdict != lists.PASS:
                 rules.append([rule.verdict, rule.target, places.get(entry, -1), [box_of(box) for box in rule.boxes]])
+            elif rule.reason and (rule.number, NOT_DECIDED) in listed.by_key:
+                rules.append(left_out_rule(listed, rule, places))
+    beside = [left_out_rule(listed, rule, places) for rule in listed.chains.beside]
+    chains[listed.chains.start] = beside + chains[listed.chains.start]
     return {"start": listed.chains.start, "families": sorted(listed.chains.families), "chains": chains}
+
+
+def left_out_rule(listed, rule, places):
+    """A line that was left out: it may decide the packets of its boxes, or all."""
+    known = rule.boxes or [boxes.whole(family) for family in (4, 6)]
+    return [NOT_DECIDED, None, places[listed.by_key[rule.number, NOT_DECIDED]], [box_of(box) for box in known]]
 
 
 def least_of(entry, audit):
@@ -61,7 +71,7 @@ def least_of(entry, audit):
 def entry_of(listed, entry, answer):
     """An entry as the page gets it."""
     told = {"place": entry.place(), "number": entry.number, "text": entry.text, "verdict": entry.verdict,
-            "end": entry.is_end, "answer": answer, "dead": None, "unknown": False, "least": []}
+            "end": entry.is_end, "answer": answer, "dead": None, "unknown": False, "least": [], "leftOut": entry.why}
     if listed.form == RULES:
         told["match"] = match_of(entry.rules[0])
     return told
@@ -69,11 +79,11 @@ def entry_of(listed, entry, answer):
 
 def answer_of(listed, entry, labels_of):
     """What counts as the answer of an entry: that of its first rule, or its verdict if no rule says it."""
-    return labels_of[entry.rules[0].ordinal] if entry.rules else entry.verdict
+    return labels_of[entry.rules[0].ordinal] if entry.rules and not entry.why else entry.verdict
 
 
 class Audited:
-    """A list with its audit."""
+    """A list with its audit; what it says of its entries comes with `told`."""
 
     def __init__(self, listed, given, room):
         self.listed = listed
@@ -91,18 +101,19 @@ class Audited:
         return {"name": str(listed.name), "checksum": checksum, "form": listed.form, "none": labels_of[0],
                 "what": listed.entries[0].what if listed.entries else "line", "rules": len(listed.rules),
                 "hasCategories": listed.has_categories, "entries": entries, "chains": chains_of(listed, self.places),
-                "parts": self.audit.parts or 1,
+                "parts": self.audit.parts or 1, "assumed": listed.assumed, "leftOut": listed.told_left_out(),
                 "notLooked": [f"{parts.words(family, part)}: {message}"
                               for family, part, message, _ in self.audit.left]}
 
     def add_audit(self, entries):
         """Says of each entry whether it can decide, and what covers it if it can't."""
         dead, unknown = self.audit.dead()
-        its_covers = audits.Covers(self.listed)
+        its_covers, elsewhere = audits.Covers(self.listed), self.audit.not_under_assumption(dead)
         for entry in dead:
             found, why = its_covers.of_entry(entry)
             by = sorted(self.places[it] for it in found)
-            entries[self.places[entry]]["dead"] = {"why": why, "by": by}
+            which = "notHere" if entry in elsewhere else "dead"
+            entries[self.places[entry]][which] = {"why": why, "by": by}
         for entry in unknown:
             entries[self.places[entry]]["unknown"] = True
         for entry, told in zip(self.listed.entries, entries):

@@ -12,9 +12,9 @@ reads the lines of the list, and gives a `Read`, or a plain tuple of the same th
 A `Read` may have asides: what else in the file decides on these packets.
 
 A `Rule` matches the packets of its boxes, and has a verdict; JUMP and GO have a target, the name of a chain. What a
-rule says beyond that is its reason, a sentence why it can't be said; such a rule is refused, or left out leniently. A
-reader raises CantSay for what isn't the form at all. Readers turn nothing into rules of aclc: `flatten` does that for
-all forms.
+rule says beyond that is its reason, a sentence why it can't be said; such a rule is refused, or left out leniently. Its
+boxes then hold all packets that it may match, and it has none if nothing is known of them. A reader raises CantSay for
+what isn't the form at all. Readers turn nothing into rules of aclc: `flatten` does that for all forms.
 """
 from collections import namedtuple
 

@@ -17,6 +17,8 @@ Clipped = namedtuple("Clipped", "rule owner part")
 WHOLE = Part((0, 0), (0, 0), (0, 0), (0, 0xFFFF), (0, 0xFFFF))
 BITS = {4: 32, 6: 128}
 MOST_RUNS = 200
+# The greatest priority: no rule of a list has it, since ranks begin below.
+GREATEST = 536870911
 # The exit codes of a table that is too large, and of two lists with too many rules.
 TOO_LARGE = (4, 11)
 
@@ -141,7 +143,7 @@ def of_no_packet(family, part):
             met = meet(WHOLE._replace(protocol=(value, mask), source_ports=ports[0], destination_ports=ports[1]), part,
                        BITS[family])
             if met:
-                yield line(family, met, 0, 536870911, 0xFFFF)
+                yield line(family, met, 0, GREATEST, 0xFFFF)
 
 
 def words(family, part):

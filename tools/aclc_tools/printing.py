@@ -40,11 +40,14 @@ def print_json(told):
     print()
 
 
-def print_csv(names, rows):
-    """Rows, each a dictionary, with a line of their names before them."""
-    writer = csv.DictWriter(sys.stdout, names, lineterminator="\n", extrasaction="ignore")
+def print_csv(names, rows, left_out=()):
+    """Rows, each a dictionary, with a line of their names before them. If lines were left out, four columns more tell
+    each of them, in rows of their own."""
+    rows, more = list(rows), [{f"left_out_{name}": value for name, value in it.items()} for it in left_out]
+    columns = [f"left_out_{name}" for name in ("file", "line", "text", "why")] if more else []
+    writer = csv.DictWriter(sys.stdout, [*names, *columns], lineterminator="\n", extrasaction="ignore")
     writer.writeheader()
-    writer.writerows(rows)
+    writer.writerows([*rows, *more])
 
 
 def end_of(main, code):

@@ -25,6 +25,14 @@ class TwoLists:
         """Whether the answers of two rules differ, each given by its number or None."""
         return self.labels[0][old or 0] != self.labels[1][new or 0]
 
+    def told_left_out(self):
+        """What is told of the lines of both that were left out."""
+        return [it for listed in self.lists for it in listed.told_left_out()]
+
+    def is_open(self, old, new):
+        """Whether a line that was left out may decide the packets of two rules, each given by its number or None."""
+        return any(number in listed.beneath for listed, number in zip(self.lists, (old, new)))
+
     def rules(self, change):
         """The rules that decide, each of its list or None."""
         return [listed.rules[number - 1] if number else None

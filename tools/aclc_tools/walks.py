@@ -1,6 +1,7 @@
 # SPDX-License-Identifier: BSD-3-Clause
 """The way of a packet through the chains of a list, rule by rule, as the other program goes it."""
 from aclc_tools import lists
+from aclc_tools.any_list import NOT_DECIDED
 
 
 def is_within(boxes, key):
@@ -15,6 +16,7 @@ def way(listed, key):
     found = []
     if key.family not in listed.chains.families:
         return found
+    found += [listed.by_key[it.number, NOT_DECIDED] for it in listed.chains.beside]
     follow(listed, listed.chains.start, key, found)
     return found + [entry for entry in listed.entries if entry.is_end]
 
@@ -22,7 +24,12 @@ def way(listed, key):
 def follow(listed, name, key, found):
     """Goes through a chain to its end, or to where the packet leaves it."""
     for rule in listed.chains.chains[name].rules:
-        if rule.reason or not is_within(rule.boxes, key):
+        if rule.reason:
+            entry = listed.by_key.get((rule.number, NOT_DECIDED))
+            if entry and entry not in found and (not rule.boxes or is_within(rule.boxes, key)):
+                found.append(entry)
+            continue
+        if not is_within(rule.boxes, key):
             continue
         if rule.verdict in lists.DECIDING:
             entry = listed.by_key[rule.number, rule.verdict]
