@@ -108,6 +108,6 @@ export function rulesView(page) {
   const choice = make('select', { id: 'rows', onchange: (event) => choose(event.target.value) },
     Object.entries(CHOICES).filter(([value]) => packets || !OF_PACKETS.includes(value)).map(([value, text]) => make('option', { value }, text)));
   choose('all');
-  return [make('p', { class: 'lead' }, sentence(page)),
+  return [make('p', { class: 'lead' }, sentence(page)), page.report.list.assumed ? make('p', { class: 'told' }, `Assumed of all packets: ${page.report.list.assumed}.`) : null,
     make('div', { class: 'tools' }, make('label', { for: 'rows' }, 'Lines that'), choice), table.element];
 }

@@ -11,6 +11,7 @@ import base64
 
 import drawn
 from aclc_tools import answers, capture, keys, packet_words
+from aclc_tools.program import TOP
 from tool import BUILT, tool
 
 LEFT = " permit tcp any any established\n"
@@ -119,8 +120,7 @@ class TwoLists(LeftOut):
                                      (REMARK, OLD, (SYN,), 2)):
             words = ["--old", self.file(old), self.file(new), *[self.packets(*sent)] * bool(sent), "-o", page]
             self.assertEqual(self.tool("report", *words)[0], code)
-        content = zlib.decompress(base64.b64decode(re.search(r'id="report">([^<]*)<', page.read_text())[1]))
-        told = json.loads(content[8:8 + int.from_bytes(content[:8], "little")])
+        told = held(page)
         self.assertEqual([it["leftOut"][:20] for it in told["lists"][0]["entries"] if it["leftOut"]], ["it compares TCP flag"])
         self.assertEqual(told["lists"][1]["leftOut"][0]["line"], 2)
 
@@ -163,6 +163,49 @@ class OneList(LeftOut):
             told = json.loads(told)
             self.assertEqual((ended, [it["line"] for it in told["dead"]], told["unknown"]), (code, dead, unknown), text)
             self.assertEqual(len(told["left_out"]), 1)
+
+
+@BUILT
+class Assumed(LeftOut):
+    def dead(self, text, *assumed):
+        """What tools/dead tells of a list of iptables, and its exit code."""
+        code, printed, _ = tool("dead", "--json", "--family", "4", "--chain", "INPUT", *assumed, self.file(text))
+        told = json.loads(printed)
+        return code, told["assumed"], [[it["line"] for it in told[name]] for name in ("dead", "not_under_this_assumption")]
+
+    def test_what_the_assumption_alone_switches_off_is_not_dead(self):
+        lines = ["-m conntrack --ctstate RELATED,ESTABLISHED -j ACCEPT", "-i lo -j ACCEPT", "-i eth1 -j lan",
+                 "-p tcp -m tcp --dport 22 -j ACCEPT", "-s 10.0.0.0/8 -p tcp -m tcp --dport 22 -j ACCEPT",
+                 "-m conntrack --ctstate NEW -j DROP", "-p udp -j ACCEPT"]
+        text = "*filter\n:INPUT DROP [0:0]\n:lan - [0:0]\n" + "".join(f"-A INPUT {it}\n" for it in lines)
+        text += "-A lan -p icmp -j ACCEPT\n-A lan -p icmp -j DROP\nCOMMIT\n"
+        for assumed, here in (("in=eth0,state=new", [4, 5, 10, 11]), ("in=lo,state=established", [5, 7, 9, 10, 11])):
+            self.assertEqual(self.dead(text, "--assume", assumed), (1, assumed, [[8, 12], here]))
+        kept = text.replace("-A INPUT -s 10.0.0.0/8 -p tcp -m tcp --dport 22 -j ACCEPT\n", "").replace("-A lan -p icmp -j DROP\n", "")
+        self.assertEqual(self.dead(kept, "--assume", "in=eth0,state=new"), (0, "in=eth0,state=new", [[], [4, 5, 9, 10]]))
+        code, printed, _ = tool("dead", "--family", "4", "--chain", "INPUT", "--assume", "in=eth0,state=new", self.file(kept))
+        self.assertIn("decides no packet under this assumption (in=eth0,state=new): it matches no packet", printed)
+        self.assertTrue(printed.endswith("0 of 6 lines decide no packet; 4 more under this assumption alone; "
+                                         "assumed: in=eth0,state=new\n"), printed)
+
+    def test_a_report_tells_them_apart(self):
+        page = self.room.name(".html")
+        text = "*filter\n:INPUT DROP [0:0]\n-A INPUT -i lo -j ACCEPT\n-A INPUT -p udp -j ACCEPT\n-A INPUT -p udp -j DROP\nCOMMIT\n"
+        self.assertEqual(tool("report", "--family", "4", "--assume", "in=eth0", self.file(text), "-o", page)[0], 0)
+        listed = held(page)["lists"][0]
+        self.assertEqual((listed["assumed"], [it["number"] for it in listed["entries"] if it["dead"]],
+                          [it["number"] for it in listed["entries"] if it.get("notHere")]), ("in=eth0", [5], [3]))
+
+    def test_a_report_of_lists_that_could_not_be_compared_ends_with_2(self):
+        old, new = TOP / "examples" / "office.rules", TOP / "examples" / "halves.rules"
+        for words, code in ((["--old", old, new], 0), (["--old", old, new, "--max-words", "30"], 2), ([old, "--max-words", "30"], 2)):
+            self.assertEqual(tool("report", *words, "-o", self.room.name(".html"))[0], code, words)
+
+
+def held(page):
+    """What the page of a report holds."""
+    content = zlib.decompress(base64.b64decode(re.search(r'id="report">([^<]*)<', page.read_text())[1]))
+    return json.loads(content[8:8 + int.from_bytes(content[:8], "little")])
 
 
 def subsets(*lists):
