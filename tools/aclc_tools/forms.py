@@ -19,7 +19,7 @@ FORMS = {
     "juniper": Form(juniper, kind="filter"),
     "aws": Form(aws, "rule"),
     "azure": Form(azure, "priority"),
-    "l3fwd": Form(l3fwd, end=None),
+    "l3fwd": Form(l3fwd),
 }
 MOST_DATA = 0xFFFFFFFF
 Converted = namedtuple("Converted", "lines left_out notes flattener families")

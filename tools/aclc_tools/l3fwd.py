@@ -11,8 +11,8 @@ from aclc_tools.lists import ACCEPT, DROP, PASS, CantSay, Chain, Rule
 from aclc_tools.rule_file import ip6_address
 
 COLUMNS = 9
-# What a route leads to is a number of 32 bits.
-MOST_ROUTE = 0xFFFFFFFF
+# A route's result is the number that it leads to and one. A result of 0, or with one of the four highest bits set, drops.
+MOST_ROUTE = 0x0FFFFFFE
 # No number that a list may have is longer, and Python reads none of thousands of digits.
 MOST_DIGITS = 40
 
@@ -78,14 +78,14 @@ def read(place, text):
     (family, source), (other, destination) = network(words[0]), network(words[1])
     if family != other:
         raise CantSay("source and destination are of different families")
-    if text[0] == "R":
-        number(words[COLUMNS], MOST_ROUTE)
+    if text[0] == "R" and number(words[COLUMNS], 0xFFFFFFFF) > MOST_ROUTE:
+        raise CantSay(f"the route leads to {words[COLUMNS]}, above {MOST_ROUTE}: l3fwd-acl drops its packets")
     box = boxes.Box(family, source, destination, ports(*words[2:5]), ports(*words[5:8]), protocols(words[8]))
     return Rule(place, text, [box], ACCEPT if text[0] == "R" else DROP, None, None)
 
 
 def convert(lines, options):
-    """The rules as one chain; a packet that none matches has no answer."""
+    """The rules as one chain; a packet that none matches is dropped."""
     rules, families = [], set()
     for place, text in enumerate(lines, 1):
         if not text.strip() or text[0] == "#":

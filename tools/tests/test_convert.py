@@ -16,6 +16,8 @@ REFUSED = [
     ("l3fwd", "@10.0.0.0/8 0.0.0.0/0 0:65535 0:65535 6/0xff\n", "9 words"),
     ("l3fwd", "@10.0.0.0/8 0.0.0.0/0 0 : 65535 0 : 65536 6/0xff\n", "65536 is above 65535"),
     ("l3fwd", "R10.0.0.0/8 0.0.0.0/0 0 : 65535 0 : 65535 6/0xff one\n", "one is no number"),
+    ("l3fwd", "R10.0.0.0/8 0.0.0.0/0 0 : 65535 0 : 65535 6/0xff 268435455\n", "l3fwd-acl drops its packets"),
+    ("l3fwd", "R10.0.0.0/8 0.0.0.0/0 0 : 65535 0 : 65535 6/0xff 0xFFFFFFFF\n", "l3fwd-acl drops its packets"),
     ("l3fwd", f"@10.0.0.0/8 0.0.0.0/0 0 : 65535 0 : {'9' * 5000} 6/0xff\n", "9 is above 65535"),
     ("l3fwd", "@10.0.0.0/8 0.0.0.0/0 0 : 65535 0 : 65535 6/0xff pri=20 data=101\n", "pri=20 is an attribute of aclc's"),
     ("l3fwd", "R10.0.0.0/8 0.0.0.0/0 0 : 65535 0 : 65535 6/0xff data=101\n", "data=101 is an attribute of aclc's"),
@@ -65,6 +67,11 @@ class Convert(unittest.TestCase):
         for data, expected in (("line", [2]), ("verdict", [1, 2])):
             rules = rules_of(convert("cisco", CISCO.format("permit tcp any any"), data=data)[0])
             self.assertEqual([rule.userdata for rule in rules], expected)
+
+    def test_packets_that_no_line_of_l3fwd_matches_are_dropped(self):
+        route = "R10.0.0.0/8 0.0.0.0/0 0 : 65535 0 : 65535 6/0xff 268435454\n"
+        self.assertEqual([rule.userdata for rule in rules_of(convert("l3fwd", route, data="verdict")[0])], [1, 2])
+        self.assertEqual([rule.userdata for rule in rules_of(convert("l3fwd", route)[0])], [1])
 
     def test_what_is_assumed_is_read_or_a_usage_error(self):
         said = assume.parse("in=eth0,state=new,local=10.0.0.1,local=2001:db8::1")
