@@ -1,33 +1,15 @@
--- What a program promises that makes the desk and the streams of its command itself.
-use Rattle.std.specs.Prelude.{ℕ, List, [], false, None}
-use Rattle.acl_outside.specs.Desk.{DeskView}
-use Rattle.acl_outside.specs.Sink.{SinkView}
+-- What `aclc` promises as a program.
+use Rattle.std.specs.Prelude.{◌≡◌, ℕ, List}
+use Rattle.program_edge.specs.Edge.{World}
 use Rattle.command_ending.specs.declared.status.Status.{Status}
+use Rattle.command_ending.specs.Message.{code_of}
 use Rattle.command_ending.specs.StepEffects.{outside}
 use Rattle.acl_tool.specs.CommandEffects.{Runs}
 
--- a desk over the system of which nothing was asked
-abbrev pub desk_anew : DeskView
-desk_anew = record {
-  content = None;
-  answers = [];
-  reading = false;
-  writing = false;
-  read_faults = 0;
-  absent = 0;
-  write_faults = 0;
-}
-
--- a sink over the system that was given nothing
-abbrev pub sink_anew : SinkView
-sink_anew = record { taken = []; written = None; faults = 0 }
-
--- The command of the words ran from such a desk and two such sinks to what stands of them
--- afterwards, and all holds that `run` promises.
-pub record RunsAnew (words : List (List ℕ)) (status : Status) : Type 0 where
-  pub desk : DeskView
-  pub out : SinkView
-  pub err : SinkView
-  pub taken : ℕ
-  pub runs : Runs words (outside desk_anew sink_anew 0) (outside desk out taken) sink_anew err
-      status
+-- The exit code is that of a status with which all holds that `run` promises. The counter of the
+-- transitions stood at the first number before, and stands at the second.
+abbrev pub IsRunOfAclc : ℕ → ℕ → List (List ℕ) → World → World → ℕ → Type 0
+IsRunOfAclc steps_old steps_new words old new code =
+    (status : Status) × (code ≡ code_of status)
+    × Runs words (outside old.desk old.out steps_old) (outside new.desk new.out steps_new) old.err
+      new.err status

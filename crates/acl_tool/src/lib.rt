@@ -1,8 +1,8 @@
 //! the words of a command line and what lies outside → printed verdicts, and a status
 //!
 //! [`run`] reads the words, does what they ask for over a desk and sinks, and puts a line that
-//! names the cause where it ends otherwise than done. [`run_program`] is all that a `main` has to
-//! call: it lends [`run`] the words, the files and the streams of the system.
+//! names the cause where it ends otherwise than done. [`Aclc`] is the same as a program, to which
+//! `program_edge` lends the words, the files and the streams of the system.
 //!
 //! | module | what it reads, says or prints |
 //! |---|---|
@@ -18,7 +18,7 @@
 //! | `rule_file` | the rules of a file |
 //! | `tables` | the rules in the contexts of both families, and their tables |
 //! | `text` | a text that is put whole |
-//! | `program` | a command over the files and streams of the system, and its exit code |
+//! | `program` | the commands as a program |
 #![tactic(auto)]
 
 mod audit;
@@ -41,6 +41,6 @@ pub use command_ending::Status;
 pub use command_words::{UsageFault, UsageKind};
 pub use field_defs::Family;
 pub use pcap_reader::CaptureFault;
-pub use program::{exit_code, run_over, run_program, run_words};
+pub use program::Aclc;
 pub use table_image::{ImageFault, ImageKind};
 pub use tool::run;

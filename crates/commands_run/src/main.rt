@@ -2,10 +2,16 @@
 //! code after it
 #![tactic(auto)]
 
-use acl_tool::{run_program, run_words};
+ghost use Rattle.std.specs.Prelude.{◌≡◌, ◌<◌};
+
+use acl_outside::system_words;
+use acl_tool::Aclc;
+use program_edge::run_words;
 use std::alloc::{AllocError, Global};
 use std::io;
+use std::marker::Brand;
 use std::process::ExitCode;
+use std::sync::ledger::{Blank, Ledger};
 
 /// The words of the commands, of which the first is the program's name.
 const COMMANDS: [&[&str]; 4] = [
@@ -32,10 +38,20 @@ fn words_of(alloc: Global, all: &[&str]) -> Result<Vec<String>, AllocError> {
 }
 
 fn main(rt: HostRuntime) -> io::Result<ExitCode> {
-    let first = run_program(&rt);
+    run_counted::<Brand>(Blank::new(1), &rt)
+}
+
+/// All commands by one program, whose counter stands at 0 before the first.
+fn run_counted<L: Ledger>(blank: Blank, rt: &HostRuntime) -> io::Result<ExitCode>
+    requires name { blank.name ≡ L.name }
+    requires parts { blank.parts ≡ L.parts }
+    requires some { 0 < blank.parts }
+{
+    let mut aclc = Aclc::<L>::new(blank);
+    let first = run_words(&mut aclc, rt, system_words(rt));
     println!(rt; "{first:?}")?;
     for command in COMMANDS {
-        let code = run_words(&rt, words_of(rt.alloc(), command).ok());
+        let code = run_words(&mut aclc, rt, words_of(rt.alloc(), command).ok());
         println!(rt; "{code:?}")?;
     }
     Ok(first)

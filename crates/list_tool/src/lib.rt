@@ -1,7 +1,8 @@
 //! a firewall's or router's list and a chain's name → a rule file that decides as the chain does
 //!
 //! [`run_lists`] reads the words, reads the list through a desk, and puts a rule file to the
-//! output, or one line that names the cause. [`run_list_program`] is all that a `main` has to call.
+//! output, or one line that names the cause. [`AclcLists`] is the same as a program, to which
+//! `program_edge` lends the words, the files and the streams of the system.
 //!
 //! | module | what it reads, says or prints |
 //! |---|---|
@@ -12,7 +13,7 @@
 //! | `printing` | rules, and the lines that they were made of → the text of a rule file |
 //! | `status` | how a run ended, and what in a list is refused |
 //! | `message` | the line that tells it |
-//! | `program` | a run over the files and streams of the system, and its exit code |
+//! | `program` | the turning of lists as a program |
 #![tactic(auto)]
 
 mod listing;
@@ -25,7 +26,7 @@ mod tool;
 mod words;
 
 pub use message::message_line;
-pub use program::{run_list_program, run_list_words, run_lists_over};
+pub use program::AclcLists;
 pub use status::{ListFault, ListKind, ListPlace, ListStatus};
 pub use tool::run_lists;
 pub use words::Form;

@@ -11,6 +11,7 @@
 //! | `lists` | the lists, and the rule files that they come to |
 //! | `runs` | a run with one fault, and what is compared of it |
 //! | `sizes` | a list of two thousand lines |
+//! | `system` | the program over files of the system |
 #![tactic(auto)]
 
 #[cfg(test)]
@@ -23,3 +24,5 @@ mod lists;
 mod runs;
 #[cfg(test)]
 mod sizes;
+#[cfg(test)]
+mod system;

@@ -1,12 +1,17 @@
 //! The program over files of the system, the words that the system gives, and closed streams.
 
+ghost use Rattle.std.specs.Prelude.{◌≡◌, ◌<◌};
+
 use acl_outside::{held_stream, system_words};
-use acl_tool::run_over;
+use acl_tool::Aclc;
+use program_edge::run_over;
 use std::alloc::{AllocError, Global};
 use std::env::FillError;
 use std::fs;
+use std::marker::Brand;
 use std::process::{Abort, ExitCode};
 use std::rt::{Env, Files};
+use std::sync::ledger::{Blank, Ledger};
 use std::test::Fail;
 
 /// The guide's rule, and two packets of which the first matches it.
@@ -30,6 +35,23 @@ fn strings(alloc: Global, all: &[&str]) -> Result<Vec<String>, AllocError> {
     Ok(words)
 }
 
+/// Runs the program with all these words over the files that `rt` opens and these as its streams.
+fn run_counted<R: AllocGlobal + Files, L: Ledger>(
+    blank: Blank,
+    rt: &R,
+    all: Vec<String>,
+    out: R::File,
+    err: R::File,
+) -> ExitCode
+    requires name { blank.name ≡ L.name }
+    requires parts { blank.parts ≡ L.parts }
+    requires some { 0 < blank.parts }
+{
+    let mut aclc = Aclc::<L>::new(blank);
+    let (code, _, _) = run_over(&mut aclc, rt, rt.alloc(), Some(all), out, err);
+    code
+}
+
 /// Runs the program with all these words over new files as its streams, and compares its code and
 /// what it put to standard output and to standard error.
 fn ends<R: Abort + AllocGlobal + Files>(
@@ -42,7 +64,7 @@ fn ends<R: Abort + AllocGlobal + Files>(
     let all = strings(rt.alloc(), all)?;
     let out = fs::create(rt, "aclc_test.out")?;
     let err = fs::create(rt, "aclc_test.err")?;
-    let ended = run_over(rt, rt.alloc(), Some(all), out, err);
+    let ended = run_counted::<R, Brand>(Blank::new(1), rt, all, out, err);
     assert!(rt; ended == ExitCode::from(code));
     assert!(rt; fs::read(rt, "aclc_test.out")?.as_slice() == printed.as_bytes());
     assert!(rt; fs::read(rt, "aclc_test.err")?.as_slice() == told.as_bytes());

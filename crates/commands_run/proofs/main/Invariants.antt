@@ -1,0 +1,5 @@
+-- the ledger of the counter that the program begins with
+use Rattle.commands_run.proofs.main.Given as goal
+
+abbrev pub ghosts-run_counted : goal.ghosts-run_counted
+ghosts-run_counted a = record { name = a.blank.name; parts = a.blank.parts }
