@@ -1,6 +1,7 @@
 pub mod Listing
 pub mod Words
 pub mod Requests
+pub mod Premises
 pub mod Printed
 pub mod Decides
 pub mod Texts

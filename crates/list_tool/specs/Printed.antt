@@ -1,7 +1,8 @@
--- The text of a rule file that is made of a list: its rules, and above each the text of the line
--- that it was made of, or the handle of the rule, where that isn't that of the rule before it.
+-- The text of a rule file that is made of a list: what it presupposes, and its rules. Above each rule
+-- stands the text of the line that it was made of, or the handle of the rule, where that isn't that of
+-- the rule before it.
 use Rattle.std.specs.Prelude.{◌≡◌, ℕ, ◌+◌, ◌-◌, ◌==◌, List, [], ◌∷◌, ◌++◌, length, nat_lt, slice_get}
-use Rattle.std.specs.Prelude.{if◌then◌else◌, codes, Option, Some, None, Result, Ok, Err}
+use Rattle.std.specs.Prelude.{if◌then◌else◌, codes, map, Option, Some, None, Result, Ok, Err}
 use Rattle.field_defs.specs.declared.field.Family.{Family}
 use Rattle.rule_set.specs.Rule.{RuleView}
 use Rattle.text_scan.specs.Parts.{lines_of}
@@ -16,6 +17,7 @@ use Rattle.list_tool.specs.declared.status.Refusal.TheVariants as refusal
 use Rattle.list_tool.specs.declared.words.Form.{Form}
 use Rattle.list_tool.specs.declared.words.Form.TheVariants.{Iptables, Ip6tables, Cisco, Nft, Nft6}
 use Rattle.list_tool.specs.Listing.{◌>>=◌, at_place, family_of, no_place, rule_place, rules_for}
+use Rattle.list_tool.specs.Premises.{premises}
 use Rattle.list_tool.specs.Words.{Request}
 
 -- what is said is a fault of the list, or there is no memory
@@ -95,16 +97,23 @@ within_limit form text =
     if nat_lt max_rule_file (length text) then Err (at_place (no_place form) TextTooLong)
     else Ok text
 
+-- the lines of a rule file: comments with what it presupposes, and its rules
+abbrev pub file_lines :
+    List (List ℕ) → Form → List (List ℕ) → List RuleView → List RuleView → List LineView
+file_lines head form lines by_line rules =
+    map (λ text. Comment text) head ++ commented form lines by_line 0 rules
+
 -- the text of some rules, by the lines of the list and the numbers of the rules
 abbrev pub text_of_rules :
-    Form → List ℕ → List RuleView → List RuleView → Result (List ℕ) ListFault
-text_of_rules form bytes by_line rules =
+    List (List ℕ) → Form → List ℕ → List RuleView → List RuleView → Result (List ℕ) ListFault
+text_of_rules head form bytes by_line rules =
     unless_odd form (first_odd (family_of form) by_line 0 rules) rules >>= λ kept.
-    within_limit form (list_text (family_of form) (commented form (lines_of bytes) by_line 0 kept))
+    within_limit form
+    (list_text (family_of form) (file_lines head form (lines_of bytes) by_line kept))
 
 -- the text of the rule file that is asked for, by the bytes of the list
 abbrev pub text_of : Request → List ℕ → Result (List ℕ) ListFault
 text_of request bytes =
     rules_for request bytes answers.Line >>= λ by_line.
     rules_for request bytes request.options.answers >>= λ rules.
-    text_of_rules request.form bytes by_line rules
+    text_of_rules (premises request) request.form bytes by_line rules

@@ -42,7 +42,7 @@ by_verdict =
     ∷ []
 
 -- a line's text stands above the first of its rules
-with_lines : text_of_rules Iptables list by_line by_line
+with_lines : text_of_rules [] Iptables list by_line by_line
     ≡ Ok (codes "# -A INPUT -p udp -m udp --dport 53 -j ACCEPT\n"
     ++ codes "@0.0.0.0/0\t0.0.0.0/0\t0 : 65535\t53 : 53\t0x11/0xFF\tpri=4 cat=65535 data=3\n"
     ++ codes "# -A INPUT -m iprange --src-range 10.0.0.1-10.0.0.2 -j REJECT\n"
@@ -54,7 +54,7 @@ unfolding list digits
 with_lines = refl
 
 -- so it does where the userdata is a verdict
-with_verdicts : text_of_rules Iptables list by_line by_verdict
+with_verdicts : text_of_rules [] Iptables list by_line by_verdict
     ≡ Ok (codes "# -A INPUT -p udp -m udp --dport 53 -j ACCEPT\n"
     ++ codes "@0.0.0.0/0\t0.0.0.0/0\t0 : 65535\t53 : 53\t0x11/0xFF\tpri=4 cat=65535 data=1\n"
     ++ codes "# -A INPUT -m iprange --src-range 10.0.0.1-10.0.0.2 -j REJECT\n"
@@ -69,7 +69,7 @@ with_verdicts = refl
 at_the_end :
     (let rules = of_ip4 2 3 0 0 (Bitmask 17 255) (Range 53 53)
     ∷ of_ip4 1 0 0 0 (Bitmask 0 0) (Range 0 65535) ∷ [] in
-    text_of_rules Iptables list rules rules)
+    text_of_rules [] Iptables list rules rules)
     ≡ Ok (codes "# -A INPUT -p udp -m udp --dport 53 -j ACCEPT\n"
     ++ codes "@0.0.0.0/0\t0.0.0.0/0\t0 : 65535\t53 : 53\t0x11/0xFF\tpri=2 cat=65535 data=3\n"
     ++ codes "# what no line decides\n"
@@ -78,7 +78,7 @@ unfolding list digits
 at_the_end = refl
 
 -- of a ruleset the handles stand above the rules
-with_handles : text_of_rules Nft (codes "{}") by_line by_verdict
+with_handles : text_of_rules [] Nft (codes "{}") by_line by_verdict
     ≡ Ok (codes "# handle 3\n"
     ++ codes "@0.0.0.0/0\t0.0.0.0/0\t0 : 65535\t53 : 53\t0x11/0xFF\tpri=4 cat=65535 data=1\n"
     ++ codes "# handle 4\n"
@@ -90,9 +90,18 @@ unfolding digits
 with_handles = refl
 
 -- no rules, no text
-of_nothing : text_of_rules Iptables list [] [] ≡ Ok []
+of_nothing : text_of_rules [] Iptables list [] [] ≡ Ok []
 unfolding list
 of_nothing = refl
+
+-- what is presupposed stands above the rules, and no byte of it ends its line
+with_premises :
+    (let rules = of_ip4 1 2 0 0 (Bitmask 0 0) (Range 0 65535) ∷ [] in
+    text_of_rules (codes "IPv4 packets" ∷ codes "a\nb" ∷ []) Iptables list rules rules)
+    ≡ Ok (codes "# IPv4 packets\n# a?b\n# :INPUT DROP [0:0]\n"
+    ++ codes "@0.0.0.0/0\t0.0.0.0/0\t0 : 65535\t0 : 65535\t0x00/0x00\tpri=1 cat=65535 data=2\n")
+unfolding list digits
+with_premises = refl
 
 -- a rule of IPv6 for a source of so many bits of both halves
 abbrev of_ip6 : ℕ → ℕ → RuleView
@@ -101,7 +110,7 @@ of_ip6 high_bits low_bits =
     ∷ Mask 0 0 ∷ Mask 0 0 ∷ Range 0 65535 ∷ Range 22 22 ∷ [])
 
 -- a prefix that ends in the high half
-of_network : text_of_rules Ip6tables list (of_ip6 32 0 ∷ []) (of_ip6 32 0 ∷ [])
+of_network : text_of_rules [] Ip6tables list (of_ip6 32 0 ∷ []) (of_ip6 32 0 ∷ [])
     ≡ Ok (codes "# -A INPUT -p udp -m udp --dport 53 -j ACCEPT\n"
     ++ codes "@2001:db8:0:0:0:0:0:0/32\t0:0:0:0:0:0:0:0/0\t0 : 65535\t22 : 22\t"
     ++ codes "0x06/0xFF\tpri=1 cat=65535 data=3\n")
@@ -109,7 +118,7 @@ unfolding list digits
 of_network = refl
 
 -- no prefix leaves out bits of the high half and goes on in the low one: the fault has its line
-of_gap : text_of_rules Ip6tables list (of_ip6 32 1 ∷ []) (of_ip6 32 1 ∷ [])
+of_gap : text_of_rules [] Ip6tables list (of_ip6 32 1 ∷ []) (of_ip6 32 1 ∷ [])
     ≡ Err (at_line 3 NoPrefix)
 unfolding list
 of_gap = refl

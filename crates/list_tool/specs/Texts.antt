@@ -19,13 +19,14 @@ pub record ListedFor (request : Request) (bytes : List ℕ) (its : Answers) (set
   pub rules : rules_for request bytes its ≡ Ok set.rules
   pub listed : Listed request its bytes set
 
--- A result is the text of these rules, which is read as them; or their fault, or want of memory.
-pub record IsTextOfRules (form : Form) (bytes : List ℕ) (by_line rules : List RuleView)
+-- A result is the text of these rules below a head of comments, and is read as them; or it is their
+-- fault, or want of memory.
+pub record IsTextOfRules (head : List (List ℕ)) (form : Form) (bytes : List ℕ) (by_line rules : List RuleView)
     (result : Result (Vec ℕ Global) Refusal) : Type 0 where
-  pub text : IfOk result (λ text. text_of_rules form bytes by_line rules ≡ Ok text.items)
+  pub text : IfOk result (λ text. text_of_rules head form bytes by_line rules ≡ Ok text.items)
   pub accepted : IfOk result
       (λ text. rule_file_of text.items ≡ Ok (lists_of (family_of form) rules))
-  pub refused : IfErr result (Refuses (text_of_rules form bytes by_line rules))
+  pub refused : IfErr result (Refuses (text_of_rules head form bytes by_line rules))
 
 -- A result is the text that is asked for, which decides as the list does; or the first thing of the
 -- list that can't be said, or want of memory.

@@ -10,6 +10,7 @@
 //! | `words` | the words of the command line |
 //! | `listing` | a list → the rules of one of its chains |
 //! | `ruleset` | the same of a ruleset of nft, up to its chains |
+//! | `premises` | what the rules presuppose of packets, as comments |
 //! | `printing` | rules, and the lines that they were made of → the text of a rule file |
 //! | `status` | how a run ended, and what in a list is refused |
 //! | `message` | the line that tells it |
@@ -18,6 +19,7 @@
 
 mod listing;
 mod message;
+mod premises;
 mod printing;
 mod program;
 mod ruleset;

@@ -13,8 +13,10 @@ ghost use Rattle.list_tool.specs.Printed.{Refuses, after_comment, comment_of};
 ghost use Rattle.list_tool.specs.Printed.{commented, first_odd, line_text};
 ghost use Rattle.list_tool.specs.Printed.{number_at, number_before, number_text, text_of};
 ghost use Rattle.list_tool.specs.Printed.{text_of_rules};
+ghost use Rattle.list_tool.specs.Premises.{premises};
 ghost use Rattle.list_tool.specs.Requests.{request_of};
 
+use crate::premises::premises;
 use crate::listing::{at_no_place, family_of, listed_rules, rule_place};
 use crate::status::{ListFault, ListKind, Refusal};
 use crate::words::{Form, Request};
@@ -53,7 +55,7 @@ fn text_with(
     ensures { IsTextOf (request_of request.now) bytes.now result }
 {
     match request.options.answers {
-        Answers::Line => text_of_rules(alloc, request.form, bytes, by_line, by_line),
+        Answers::Line => text_of_rules(alloc, request, bytes, by_line, by_line),
         Answers::Verdict => text_with_verdicts(alloc, bytes, request, by_line),
     }
 }
@@ -70,7 +72,7 @@ fn text_with_verdicts(
     ensures { IsTextOf (request_of request.now) bytes.now result }
 {
     match rules_for(alloc, bytes, request, Answers::Verdict) {
-        Ok(rules) => text_of_rules(alloc, request.form, bytes, by_line, &rules),
+        Ok(rules) => text_of_rules(alloc, request, bytes, by_line, &rules),
         Err(refusal) => Err(refusal),
     }
 }
@@ -92,14 +94,16 @@ fn rules_for(
 /// The text of some rules, by the lines of the list and the numbers of the rules.
 fn text_of_rules(
     alloc: Global,
-    form: Form,
+    request: &Request,
     bytes: &[u8],
     by_line: &RuleSet,
     set: &RuleSet,
 ) -> Result<Vec<u8>, Refusal>
-    requires { set.now.layout ≡ fields_of (family_of form) }
-    ensures { IsTextOfRules form bytes.now by_line.now.rules set.now.rules result }
+    requires { set.now.layout ≡ fields_of (family_of request.now.form) }
+    ensures { IsTextOfRules (premises (request_of request.now)) request.now.form bytes.now
+        by_line.now.rules set.now.rules result }
 {
+    let form = request.form;
     let family = family_of(form);
     let numbered = by_line.all();
     let rules = set.all();
@@ -110,7 +114,8 @@ fn text_of_rules(
         }));
     }
     let texts = lines_of(alloc, bytes)?;
-    let lines = commented(alloc, form, &texts, numbered, rules)?;
+    let head = premises(alloc, request)?;
+    let lines = commented(head, form, &texts, numbered, rules)?;
     let mut text = Vec::new(alloc);
     put_list(alloc, &mut text, family, &lines)?;
     if is_too_long(&text) {
@@ -214,19 +219,19 @@ fn lines_of<'a>(alloc: Global, bytes: &'a [u8]) -> Result<Vec<&'a [u8]>, AllocEr
     Ok(lines)
 }
 
-/// The lines of a rule file: each rule, after what is said of its number where that is another than
-/// the number before.
+/// The lines of a rule file: those of its head, and each rule, after what is said of its number where
+/// that is another than the number before.
 fn commented<'a>(
-    alloc: Global,
+    head: Vec<ListLine<'a>>,
     form: Form,
     texts: &[&'a [u8]],
     by_line: &[StoredRule],
     rules: &'a [StoredRule],
 ) -> Result<Vec<ListLine<'a>>, AllocError>
-    ensures { IfOk result (λ lines. line_views lines.items
-        ≡ commented form (map (λ text. text.now) texts.now) by_line.now 0 rules.now) }
+    ensures { IfOk result (λ lines. line_views lines.items ≡ line_views head.items
+        ++ commented form (map (λ text. text.now) texts.now) by_line.now 0 rules.now) }
 {
-    let mut lines = Vec::new(alloc);
+    let mut lines = head;
     for place in 0..rules.len() {
         let number = number_at(by_line, place);
         let comment = comment_of(form, texts, number_before(by_line, place), number);

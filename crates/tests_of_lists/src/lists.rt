@@ -11,14 +11,28 @@ COMMIT
 ";
 
 /// Its rules, each with the number of its line.
-pub(crate) const SAVED_LINES: &str = "# -A WEB -s 10.0.0.0/8 -j ACCEPT
+pub(crate) const SAVED_LINES: &str = "# IPv4 packets that come to this chain of filter, other tables apart:
+# INPUT
+# Of each of them this is assumed:
+# nothing
+# Headers are complete: legacy iptables drops others at -m tcp, udp and sctp.
+# No fragments: on later ones a match of ports fails.
+# data= is the number of the line that decides.
+# -A WEB -s 10.0.0.0/8 -j ACCEPT
 @10.0.0.0/8\t0.0.0.0/0\t0 : 65535\t80 : 80\t0x06/0xFF\tpri=262144 cat=65535 data=6
 # -A INPUT -j DROP
 @0.0.0.0/0\t0.0.0.0/0\t0 : 65535\t0 : 65535\t0x00/0x00\tpri=262143 cat=65535 data=5
 ";
 
 /// The same with verdicts: 1 accepts and 2 drops.
-pub(crate) const SAVED_VERDICTS: &str = "# -A WEB -s 10.0.0.0/8 -j ACCEPT
+pub(crate) const SAVED_VERDICTS: &str = "# IPv4 packets that come to this chain of filter, other tables apart:
+# INPUT
+# Of each of them this is assumed:
+# nothing
+# Headers are complete: legacy iptables drops others at -m tcp, udp and sctp.
+# No fragments: on later ones a match of ports fails.
+# data= is 1 to accept, 2 to drop and 3 to reject.
+# -A WEB -s 10.0.0.0/8 -j ACCEPT
 @10.0.0.0/8\t0.0.0.0/0\t0 : 65535\t80 : 80\t0x06/0xFF\tpri=262144 cat=65535 data=1
 # -A INPUT -j DROP
 @0.0.0.0/0\t0.0.0.0/0\t0 : 65535\t0 : 65535\t0x00/0x00\tpri=262143 cat=65535 data=2
@@ -28,7 +42,14 @@ pub(crate) const SAVED_VERDICTS: &str = "# -A WEB -s 10.0.0.0/8 -j ACCEPT
 pub(crate) const SAVED6: &str = "*filter\n:FORWARD DROP [0:0]\nCOMMIT\n";
 
 /// A chain without rules lets its policy decide, which has the number of its line.
-pub(crate) const SAVED6_LINES: &str = "# :FORWARD DROP [0:0]
+pub(crate) const SAVED6_LINES: &str = "# IPv6 packets that come to this chain of filter, other tables apart:
+# FORWARD
+# Of each of them this is assumed:
+# nothing
+# Headers are complete, without AH: legacy ip6tables drops others, or looks behind AH.
+# No fragments: on later ones a match of ports fails.
+# data= is the number of the line that decides.
+# :FORWARD DROP [0:0]
 @0:0:0:0:0:0:0:0/0\t0:0:0:0:0:0:0:0/0\t0 : 65535\t0 : 65535\t0x00/0x00\tpri=262144 cat=65535 data=2
 ";
 
@@ -39,7 +60,14 @@ pub(crate) const ROUTER: &str = "ip access-list extended EDGE
 ";
 
 /// Its rules.
-pub(crate) const ROUTER_LINES: &str = "#  10 permit tcp any host 10.0.0.1 eq 443
+pub(crate) const ROUTER_LINES: &str = "# IPv4 packets that this access list is applied to:
+# EDGE
+# Of each of them this is assumed:
+# nothing
+# Headers are complete.
+# No fragments: an entry that permits ports permits later ones by addresses alone.
+# data= is the number of the line that decides, and 0 if none does.
+#  10 permit tcp any host 10.0.0.1 eq 443
 @0.0.0.0/0\t10.0.0.1/32\t0 : 65535\t443 : 443\t0x06/0xFF\tpri=262144 cat=65535 data=2
 #  20 deny ip any any
 @0.0.0.0/0\t0.0.0.0/0\t0 : 65535\t0 : 65535\t0x00/0x00\tpri=262143 cat=65535 data=3
@@ -56,7 +84,14 @@ pub(crate) const RULESET: &str = r#"{"nftables":[
 "#;
 
 /// Its rules, each with its handle, the chain's where its policy decides.
-pub(crate) const RULESET_LINES: &str = "# handle 4
+pub(crate) const RULESET_LINES: &str = "# IPv4 packets that come to this base chain, other base chains apart:
+# in
+# Of each of them this is assumed:
+# nothing
+# Headers are complete: on others a match of ports fails.
+# No fragments: on later ones a match of ports fails.
+# data= is the handle of the rule that decides, or of the chain by its policy.
+# handle 4
 @10.0.0.1/32\t0.0.0.0/0\t0 : 65535\t0 : 65535\t0x00/0x00\tpri=262144 cat=65535 data=4
 # handle 2
 @0.0.0.0/0\t0.0.0.0/0\t0 : 65535\t0 : 65535\t0x00/0x00\tpri=262143 cat=65535 data=2

@@ -7,6 +7,16 @@ use std::test::Fail;
 /// How many rules the chain has.
 const RULES: u32 = 2000;
 
+/// What the rule file says of its packets.
+const PREMISES: &str = "# IPv4 packets that come to this chain of filter, other tables apart:
+# INPUT
+# Of each of them this is assumed:
+# nothing
+# Headers are complete: legacy iptables drops others at -m tcp, udp and sctp.
+# No fragments: on later ones a match of ports fails.
+# data= is 1 to accept, 2 to drop and 3 to reject.
+";
+
 /// The number's digit that stands so many places before its last one.
 fn digit(number: u32, place: u32) -> u8 {
     b'0' + (number / 10u32.wrapping_pow(place).max(1) % 10) as u8
@@ -59,7 +69,7 @@ fn push_line(text: &mut Vec<u8>, number: u32) -> Result<(), AllocError> {
 fn a_list_of_two_thousand_rules_comes_to_its_rule_file(rt: HostRuntime) -> Result<(), Fail> {
     let alloc = rt.alloc();
     let mut list = Vec::from_slice(alloc, b"*filter\n:INPUT ACCEPT [0:0]\n")?;
-    let mut rules = Vec::new(alloc);
+    let mut rules = Vec::from_slice(alloc, PREMISES.as_bytes())?;
     for number in 0..RULES {
         push_rule(&mut list, number)?;
         push_line(&mut rules, number)?;

@@ -15,7 +15,7 @@ loop-place-preserved c =
     let comment = c.comment_of-comment.ensures
     ∙ (λ i. comment_of c.args.form texts (c.number_before.ensures i) (c.number_at-number.ensures i)) in
     more_rules c.args.form texts by_line c.args.rules.now c.loop-place.place old (line_views c.put_rule.new.lines.items)
-    (commented c.args.form texts by_line 0 c.args.rules.now) rule rule c.loop-place.invariant c.loop-place-test.true
+    (line_views c.args.head.items ++ commented c.args.form texts by_line 0 c.args.rules.now) rule rule c.loop-place.invariant c.loop-place-test.true
     c.index-rules-place.is
     (c.in_ok-put_rule.ensures ∙ ap (λ it. old ++ after_comment it rule) comment)
 

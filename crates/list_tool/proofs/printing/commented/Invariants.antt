@@ -1,5 +1,5 @@
 -- The lines so far.
-use Rattle.std.proofs.Common.{map}
+use Rattle.std.proofs.Common.{map, ◌++◌}
 use Rattle.list_lemmas.proofs.Loops.{Writes}
 use Rattle.printed_lists.specs.Listed.{line_views}
 use Rattle.list_tool.specs.Printed.{commented}
@@ -10,4 +10,4 @@ abbrev pub invariant-loop-place : goal.invariant-loop-place
 invariant-loop-place l =
     Writes (commented l.form (map (λ text. text.now) l.texts) l.by_line l.place) l.rules l.place
     (line_views l.lines.items)
-    (commented l.form (map (λ text. text.now) l.texts) l.by_line 0 l.rules)
+    (line_views l.head.items ++ commented l.form (map (λ text. text.now) l.texts) l.by_line 0 l.rules)

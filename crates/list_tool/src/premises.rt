@@ -1,0 +1,104 @@
+//! What the rules of a list presuppose of packets, as comments.
+
+ghost use Rattle.std.specs.Prelude.{◌≡◌, map, IfOk};
+ghost use Rattle.printed_lists.specs.Listed.{Comment, line_views};
+ghost use Rattle.list_tool.specs.Premises.{assumed_text, data_text, fragments_text, headers_text};
+ghost use Rattle.list_tool.specs.Premises.{premises, subject_text};
+ghost use Rattle.list_tool.specs.Requests.{request_of};
+
+use crate::words::{Form, Request};
+use iptables_reader::Answers;
+use printed_lists::ListLine;
+use std::alloc::{AllocError, Global};
+
+/// The comments above the rules of a rule file: which chain they decide as, what is assumed of
+/// packets, which packets are meant, and what the userdata is.
+pub(crate) fn premises<'a>(
+    alloc: Global,
+    request: &Request<'a>,
+) -> Result<Vec<ListLine<'a>>, AllocError>
+    ensures { IfOk result (λ lines. line_views lines.items
+        ≡ map (λ text. Comment text) (premises (request_of request.now))) }
+{
+    let form = request.form;
+    let mut lines = Vec::new(alloc);
+    lines.push(ListLine::Comment(subject_text(form)))?;
+    lines.push(ListLine::Comment(request.chain.as_bytes()))?;
+    lines.push(ListLine::Comment(b"Of each of them this is assumed:"))?;
+    lines.push(ListLine::Comment(assumed_text(request.options.assumed)))?;
+    lines.push(ListLine::Comment(headers_text(form)))?;
+    lines.push(ListLine::Comment(fragments_text(form)))?;
+    lines.push(ListLine::Comment(data_text(form, request.options.answers)))?;
+    Ok(lines)
+}
+
+/// The chain or the list whose name stands in the next comment.
+fn subject_text(form: Form) -> &'static [u8]
+    ensures { result.now ≡ subject_text form }
+{
+    match form {
+        Form::Iptables => b"IPv4 packets that come to this chain of filter, other tables apart:",
+        Form::Ip6tables => b"IPv6 packets that come to this chain of filter, other tables apart:",
+        Form::Cisco => b"IPv4 packets that this access list is applied to:",
+        Form::Nft => b"IPv4 packets that come to this base chain, other base chains apart:",
+        Form::Nft6 => b"IPv6 packets that come to this base chain, other base chains apart:",
+    }
+}
+
+/// What is assumed of each of the packets.
+fn assumed_text(assumed: &[u8]) -> &[u8]
+    ensures { result.now ≡ assumed_text assumed.now }
+{
+    match assumed {
+        [] => b"nothing",
+        [_, ..] => assumed,
+    }
+}
+
+/// Which headers the packets have.
+fn headers_text(form: Form) -> &'static [u8]
+    ensures { result.now ≡ headers_text form }
+{
+    match form {
+        Form::Iptables => {
+            b"Headers are complete: legacy iptables drops others at -m tcp, udp and sctp."
+        }
+        Form::Ip6tables => {
+            b"Headers are complete, without AH: legacy ip6tables drops others, or looks behind AH."
+        }
+        Form::Cisco => b"Headers are complete.",
+        Form::Nft | Form::Nft6 => b"Headers are complete: on others a match of ports fails.",
+    }
+}
+
+/// That no packet is a fragment.
+fn fragments_text(form: Form) -> &'static [u8]
+    ensures { result.now ≡ fragments_text form }
+{
+    match form {
+        Form::Iptables | Form::Ip6tables | Form::Nft | Form::Nft6 => {
+            b"No fragments: on later ones a match of ports fails."
+        }
+        Form::Cisco => {
+            b"No fragments: an entry that permits ports permits later ones by addresses alone."
+        }
+    }
+}
+
+/// What the userdata is.
+fn data_text(form: Form, answers: Answers) -> &'static [u8]
+    ensures { result.now ≡ data_text form answers }
+{
+    match (form, answers) {
+        (_, Answers::Verdict) => b"data= is 1 to accept, 2 to drop and 3 to reject.",
+        (Form::Iptables | Form::Ip6tables, Answers::Line) => {
+            b"data= is the number of the line that decides."
+        }
+        (Form::Cisco, Answers::Line) => {
+            b"data= is the number of the line that decides, and 0 if none does."
+        }
+        (Form::Nft | Form::Nft6, Answers::Line) => {
+            b"data= is the handle of the rule that decides, or of the chain by its policy."
+        }
+    }
+}
