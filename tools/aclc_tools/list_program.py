@@ -19,7 +19,8 @@ BUILT = place_of("aclc-lists")
 WORDS = {("iptables", 4): "iptables", ("iptables", 6): "ip6tables", ("cisco", 4): "cisco", ("cisco", 6): "cisco",
          ("nft", 4): "nft", ("nft", 6): "nft6"}
 DONE, REFUSED = 0, 3
-SAID = re.compile(r"aclc-lists: list: (line|object|handle) (\d+): (.*)\n")
+# A refusal, and below it the line of the list, if the fault stands in one.
+SAID = re.compile(r"aclc-lists: list: (line|object|handle) (\d+): (.*)\n(?:  .*\n)?")
 # What came of a list: the lines of the program's rule file, or what it refuses, by its number, and why.
 Written = namedtuple("Written", "lines what number reason")
 

@@ -47,7 +47,7 @@ ENDS = (
     (["iptables", GATEWAY, "FORWARD", "lenient"], 2, "usage: word 4: unknown option"),
     (["iptables", GATEWAY, "FORWARD", "data=line", "data=7"], 2, "usage: word 5: repeated option"),
     (["iptables", GATEWAY, "FORWARD", "assume=in=eth0,in=eth1"], 2, "usage: word 4: bad value"),
-    (["iptables", "/nosuch", "INPUT"], 7, "read fault"), (["iptables", str(DATA), "INPUT"], 7, "read fault"),
+    (["iptables", "/nosuch", "INPUT"], 7, "/nosuch: read fault"), (["iptables", ".", "INPUT"], 7, ".: read fault"),
     (["iptables", GATEWAY, "NONE"], 3, "list: line 0: no such chain"),
     (["iptables", GATEWAY, "trusted"], 3, "list: line 0: chain without a policy"),
     (["ip6tables", GATEWAY, "FORWARD"], 3, "list: line 9: bad address"),
@@ -66,13 +66,22 @@ ENDS = (
 OF_NO_PART = ("\nip acces-list extended A\n", "\nip access-list extended B\n")
 
 
+def below(words, said):
+    """What stands below a refusal: the line of the list, if the fault stands in one, up to its 100th byte."""
+    place = re.fullmatch(r"list: line (\d+): (.*)", said)
+    if not place or place.group(1) == "0" or place.group(2) == "no such list":
+        return ""
+    line = Path(words[1]).read_text().split("\n")[int(place.group(1)) - 1]
+    return f"  {line[:100]}{'..' if len(line) > 100 else ''}\n"
+
+
 class ListProgram(unittest.TestCase):
     @BUILT
     def test_the_program_ends_as_its_words_and_files_say(self):
         for words, code, said in ENDS:
             done = subprocess.run([list_program.built_list_program(), *words], stdout=subprocess.PIPE,
                                   stderr=subprocess.PIPE)
-            self.assertEqual((done.returncode, done.stdout, done.stderr.decode()), (code, b"", f"aclc-lists: {said}\n"))
+            self.assertEqual((done.returncode, done.stdout, done.stderr.decode()), (code, b"", f"aclc-lists: {said}\n{below(words, said)}"))
 
     @BUILT
     def test_what_cannot_be_written_is_a_write_fault(self):

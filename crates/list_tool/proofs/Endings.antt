@@ -1,6 +1,6 @@
 -- How a run ends whose list was read.
-use Rattle.std.proofs.Common.{◌≡◌, ℕ, ◌+◌, ◌≤◌, List, [], ◌++◌, length, Ok, Err, sym, ap, subst, ◌∙◌, inl, inr, append-nil}
-use Rattle.std.proofs.Common.{◌≢◌, arith}
+use Rattle.std.proofs.Common.{◌≡◌, ℕ, ◌+◌, ◌≤◌, List, [], ◌∷◌, ◌++◌, length, Ok, Err, sym, ap, subst, ◌∙◌, inl, inr, append-nil}
+use Rattle.std.proofs.Common.{◌≢◌, ◌⊎◌, arith}
 use Rattle.std.specs.declared.vec.Vec.{Vec}
 use Rattle.std.specs.declared.alloc.Global.{Global}
 use Rattle.acl_outside.specs.Desk.{DeskView}
@@ -8,17 +8,19 @@ use Rattle.acl_outside.specs.Heard.{Heard, Ended}
 use Rattle.acl_outside.specs.Sink.{SinkView}
 use Rattle.command_ending.specs.Follow.{IsOpened}
 use Rattle.command_ending.specs.declared.status.Status.{Status}
+use Rattle.command_ending.specs.declared.status.Status.TheVariants as cause
 use Rattle.command_ending.specs.StepEffects.{ReadsFile, outside}
 use Rattle.command_ending.proofs.Offered.{Gains-none}
 use Rattle.iptables_reader.specs.Table.{max_list}
 use Rattle.list_tool.specs.declared.status.ListFault.{ListFault}
 use Rattle.list_tool.specs.declared.status.ListStatus.{ListStatus}
-use Rattle.list_tool.specs.declared.status.ListStatus.TheVariants.{ReadFault, Refused}
+use Rattle.list_tool.specs.declared.status.ListStatus.TheVariants.{OutOfMemory, ReadFault, Refused}
 use Rattle.list_tool.specs.Decides.{IsRuleFileOf}
 use Rattle.list_tool.specs.Printed.{text_of}
 use Rattle.list_tool.specs.RunsLists.{AnswersList, Prints, Tells}
 use Rattle.list_tool.specs.Steps.{IsReadOn, PutsText, unread_as}
 use Rattle.list_tool.specs.Words.{Request}
+use Rattle.list_tool.specs.Message.{message, message_after}
 use Rattle.list_tool.proofs.TooLong.{too_long}
 
 -- a list whose text is said was read to its end, and the text is told
@@ -117,3 +119,22 @@ answers_unread request old new out status read = record {
   kept = read.kept;
   count = omega arith;
 }
+
+-- what tells how a list ended that was read is by its name and its bytes
+pub said_read : (heard earlier : List Heard) (file : Heard) (name bytes : List ℕ) (status : ListStatus) →
+    heard ≡ file ∷ earlier → file.name ≡ name → file.bytes ≡ bytes →
+    message name bytes status ≡ message_after heard status
+said_read heard earlier file name bytes status is named same =
+    ap (λ name. message name bytes status) (sym named)
+    ∙ ap (λ bytes. message file.name bytes status) (sym same)
+    ∙ ap (λ heard. message_after heard status) (sym is)
+
+-- and what tells of one that wasn't read is by its name
+pub said_unread : (heard earlier : List Heard) (file : Heard) (name : List ℕ) (status : Status) →
+    heard ≡ file ∷ earlier → file.name ≡ name → (status ≡ cause.OutOfMemory) ⊎ (status ≡ cause.ReadFault) →
+    message name [] (unread_as status) ≡ message_after heard (unread_as status)
+said_unread heard earlier file name status is named (inl full) =
+    rw full (ap (λ heard. message_after heard OutOfMemory) (sym is))
+said_unread heard earlier file name status is named (inr fault) =
+    rw fault (ap (λ name. message name [] ReadFault) (sym named)
+    ∙ ap (λ heard. message_after heard ReadFault) (sym is))

@@ -1,19 +1,19 @@
 -- What a run comes to: where the outside has no fault, by the files that are there.
-use Rattle.std.proofs.Common.{◌≡◌, ℕ, List, ◌++◌, Some, None, Ok, Err, Result}
+use Rattle.std.proofs.Common.{◌≡◌, ℕ, List, [], ◌∷◌, ◌++◌, Some, None, Ok, Err}
 use Rattle.std.proofs.Common.{refl, sym, ap, subst, ◌∙◌, inl, inr, append-nil}
 use Rattle.acl_outside.specs.Desk.{File, bytes_of}
 use Rattle.acl_outside.specs.Heard.{Heard, Ending, Ended}
-use Rattle.acl_outside.specs.Sink.{Gains}
+use Rattle.acl_outside.specs.Sink.{Gains, SinkView}
 use Rattle.command_ending.specs.Follow.{IsOneOf, IsOpened, IsPartOf}
-use Rattle.command_ending.specs.StepEffects.{CannotRead, Outside, files_of}
-use Rattle.std.specs.Prelude.{IfOk}
+use Rattle.command_ending.specs.StepEffects.{CannotRead, Outside, PutsLine, files_of, heard_of}
 use Rattle.command_words.specs.declared.usage_fault.UsageFault.{UsageFault}
 use Rattle.list_tool.specs.declared.status.ListStatus.{ListStatus}
 use Rattle.list_tool.specs.declared.status.ListStatus.TheVariants.{Done, Usage, Refused, ReadFault}
 use Rattle.list_tool.specs.declared.status.ListStatus.TheVariants.{WriteFault, OutOfMemory}
 use Rattle.list_tool.specs.Printed.{text_of}
-use Rattle.list_tool.specs.RunsLists.{AnswersList, Completes, Prints, outcome, outcome_of_file, outcome_of_text}
-use Rattle.list_tool.specs.Words.{Request}
+use Rattle.list_tool.specs.RunsLists.{AnswersList, Completes, Prints, RunsLists, outcome, outcome_of_file, outcome_of_text}
+use Rattle.list_tool.specs.Words.{Request, command}
+use Rattle.list_tool.specs.Message.{message, message_after}
 
 -- a file that ended was opened
 ended_opened : (ending : Ending) → ending ≡ Ended → IsOpened ending
@@ -62,9 +62,30 @@ pub completes : (request : Request) (old new : Outside) (status : ListStatus) �
 completes request old new status answers =
     completes_so request old new status answers.file answers.named answers.told answers.prints answers.read_fault
 
--- and each, if the words ask for something
-pub all_complete : (asked : Result Request UsageFault) (old new : Outside) (status : ListStatus) →
-    IfOk asked (λ request. AnswersList request old new status) →
-    IfOk asked (λ request. Completes request old new status)
-all_complete (Ok request) old new status answers = completes request old new status answers
-all_complete (Err fault) old new status answers = tt
+-- words that ask for something: they were answered
+pub runs_asked : (words : List (List ℕ)) (request : Request) (old new : Outside) (err_old err_new : SinkView)
+    (status : ListStatus) → command words ≡ Ok request → AnswersList request old new status →
+    PutsLine (message_after (heard_of new.desk) status) err_old err_new → RunsLists words old new err_old err_new status
+runs_asked words request old new err_old err_new status is answers said = record {
+  answers = rw is answers;
+  usage = rw is tt;
+  complete = rw is (completes request old new status answers);
+  message = said;
+}
+
+-- what tells a usage fault names no list
+usage_said : (heard : List Heard) (fault : UsageFault) →
+    message [] [] (Usage fault) ≡ message_after heard (Usage fault)
+usage_said [] fault = refl
+usage_said (file ∷ earlier) fault = refl
+
+-- words that ask for nothing
+pub runs_nothing : (words : List (List ℕ)) (fault : UsageFault) (old : Outside) (err_old err_new : SinkView) →
+    command words ≡ Err fault → PutsLine (message [] [] (Usage fault)) err_old err_new →
+    RunsLists words old old err_old err_new (Usage fault)
+runs_nothing words fault old err_old err_new is said = record {
+  answers = rw is tt;
+  usage = rw is (record { is = refl; silent = refl });
+  complete = rw is tt;
+  message = subst (λ (line : List ℕ). PutsLine line err_old err_new) (usage_said (heard_of old.desk) fault) said;
+}

@@ -5,6 +5,7 @@ pub mod Premises
 pub mod Printed
 pub mod Decides
 pub mod Texts
+pub mod Shown
 pub mod Message
 pub mod RunsLists
 pub mod RunsAnew

@@ -1,5 +1,6 @@
--- The line on standard error that tells how a run ended.
-use Rattle.std.specs.Prelude.{◌≡◌, ◌≤◌, ℕ, List, [], ◌∷◌, ◌++◌, codes, decimal, length}
+-- The lines on standard error that tell how a run ended.
+use Rattle.std.specs.Prelude.{◌≡◌, ◌≤◌, ℕ, List, [], ◌∷◌, ◌++◌, codes, decimal, length, Option, Some, None}
+use Rattle.std.specs.Prelude.{Bool, true, false, if◌then◌else◌}
 use Rattle.command_ending.specs.Message.{usage_text}
 use Rattle.iptables_reader.specs.declared.fault.LineKind.{LineKind}
 use Rattle.iptables_reader.specs.declared.fault.LineKind.TheVariants as line
@@ -11,6 +12,9 @@ use Rattle.nft_reader.specs.declared.fault.RuleKind.{RuleKind}
 use Rattle.nft_reader.specs.declared.fault.RuleKind.TheVariants as rule
 use Rattle.nft_reader.specs.declared.fault.StartFault.{StartFault}
 use Rattle.nft_reader.specs.declared.fault.StartFault.TheVariants as start
+use Rattle.acl_outside.specs.Heard.{Heard}
+use Rattle.list_tool.specs.Shown.{line_at, shown}
+use Rattle.list_tool.specs.declared.status.ListFault.{ListFault}
 use Rattle.list_tool.specs.declared.status.ListKind.{ListKind}
 use Rattle.list_tool.specs.declared.status.ListKind.TheVariants as kind
 use Rattle.list_tool.specs.declared.status.ListPlace.{ListPlace}
@@ -154,20 +158,52 @@ place_number (placed.Line number) = number
 place_number (placed.Object number) = number
 place_number (placed.Handle number) = number
 
+-- A fault stands in the line that its place names. That a list isn't there, or has no entries, is
+-- told at the end of the configuration.
+abbrev pub stands_in_line : ListKind → Bool
+stands_in_line (kind.CiscoLine entry.NoList) = false
+stands_in_line (kind.CiscoLine entry.NoEntries) = false
+stands_in_line other = true
+
+-- the line that a place names, if it names one
+abbrev pub line_of_place : List ℕ → ListPlace → Option (List ℕ)
+line_of_place bytes (placed.Line number) = line_at bytes number
+line_of_place bytes (placed.Object number) = None
+line_of_place bytes (placed.Handle number) = None
+
+-- a line of the list, below the message
+abbrev pub below : Option (List ℕ) → List ℕ
+below None = []
+below (Some line) = codes "  " ++ shown line ++ 10 ∷ []
+
+-- the line in which a fault stands
+abbrev pub quoted : List ℕ → ListFault → List ℕ
+quoted bytes fault =
+    if stands_in_line fault.kind then below (line_of_place bytes fault.place) else []
+
 -- what stands after the program's name: a subject, a number and a kind
 abbrev pub numbered : List ℕ → ℕ → List ℕ → List ℕ
 numbered subject number kind =
     codes "aclc-lists: " ++ subject ++ decimal number ++ codes ": " ++ kind ++ 10 ∷ []
 
--- the line of a status, and nothing for `Done`
-abbrev pub message : ListStatus → List ℕ
-message Done = []
-message (Usage fault) = numbered (codes "usage: word ") fault.word (usage_text fault.kind)
-message (Refused fault) =
+-- What tells a status, by the name of the list and what was read of it: a line, and below it the
+-- line of the list that is refused. `Done` has none.
+abbrev pub message : List ℕ → List ℕ → ListStatus → List ℕ
+message name bytes Done = []
+message name bytes (Usage fault) =
+    numbered (codes "usage: word ") fault.word (usage_text fault.kind)
+message name bytes (Refused fault) =
     numbered (place_text fault.place) (place_number fault.place) (list_text fault.kind)
-message ReadFault = codes "aclc-lists: read fault" ++ 10 ∷ []
-message WriteFault = codes "aclc-lists: write fault" ++ 10 ∷ []
-message OutOfMemory = codes "aclc-lists: out of memory" ++ 10 ∷ []
+    ++ quoted bytes fault
+message name bytes ReadFault =
+    codes "aclc-lists: " ++ shown name ++ codes ": read fault" ++ 10 ∷ []
+message name bytes WriteFault = codes "aclc-lists: write fault" ++ 10 ∷ []
+message name bytes OutOfMemory = codes "aclc-lists: out of memory" ++ 10 ∷ []
+
+-- the same by the file that was heard last, if there is one
+abbrev pub message_after : List Heard → ListStatus → List ℕ
+message_after [] status = message [] [] status
+message_after (file ∷ earlier) status = message file.name file.bytes status
 
 -- the exit code of a status
 abbrev pub code_of : ListStatus → ℕ

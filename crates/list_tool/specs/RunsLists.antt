@@ -13,7 +13,7 @@ use Rattle.list_tool.specs.declared.status.ListStatus.{ListStatus}
 use Rattle.list_tool.specs.declared.status.ListStatus.TheVariants.{Done, Usage, Refused, ReadFault}
 use Rattle.list_tool.specs.declared.status.ListStatus.TheVariants.{WriteFault, OutOfMemory}
 use Rattle.list_tool.specs.Decides.{IsRuleFileOf}
-use Rattle.list_tool.specs.Message.{message}
+use Rattle.list_tool.specs.Message.{message_after}
 use Rattle.list_tool.specs.Printed.{text_of}
 use Rattle.list_tool.specs.Words.{Request, command}
 
@@ -104,4 +104,5 @@ pub record RunsLists (words : List (List ℕ)) (old new : Outside) (err_old err_
   pub answers : IfOk (command words) (λ request. AnswersList request old new status)
   pub usage : IfErr (command words) (λ fault. FaultsWords old new (Usage fault) status)
   pub complete : IfOk (command words) (λ request. Completes request old new status)
-  pub message : PutsLine (message status) err_old err_new
+  -- the message names the list, and shows the line of it that is refused
+  pub message : PutsLine (message_after (heard_of new.desk) status) err_old err_new

@@ -14,6 +14,7 @@
 //! | `printing` | rules, and the lines that they were made of → the text of a rule file |
 //! | `status` | how a run ended, and what in a list is refused |
 //! | `message` | the line that tells it |
+//! | `shown` | what a message shows of a text that others wrote |
 //! | `program` | the turning of lists as a program |
 #![tactic(auto)]
 
@@ -23,6 +24,7 @@ mod premises;
 mod printing;
 mod program;
 mod ruleset;
+mod shown;
 mod status;
 mod tool;
 mod words;

@@ -1,23 +1,32 @@
-//! The line on standard error that tells how a run ended.
+//! The lines on standard error that tell how a run ended.
 
-ghost use Rattle.std.specs.Prelude.{◌≡◌, ◌≤◌, length, take};
+ghost use Rattle.std.specs.Prelude.{◌≡◌, ◌≤◌, ◌++◌, length, take, Some};
+ghost use Rattle.std.specs.Option.{option_map};
 ghost use Rattle.acl_report.specs.declared.line.TheConstants.{LINE_ROOM};
 ghost use Rattle.list_tool.specs.Message.{Says, cisco_text, list_text, message, numbered, object_text};
+ghost use Rattle.list_tool.specs.Message.{below, line_of_place, quoted, stands_in_line};
 ghost use Rattle.list_tool.specs.Message.{place_number, place_text, rule_text, start_text, table_text};
 
-use crate::status::{ListKind, ListPlace, ListStatus};
+use crate::shown::{append_shown, line_at};
+use crate::status::{ListFault, ListKind, ListPlace, ListStatus};
 use acl_report::{LINE_ROOM, append, append_number};
 use command_ending::usage_kind;
 use iptables_reader::LineKind;
 use nft_reader::{ObjectKind, RuleKind, StartFault};
 
-/// Writes the line of a status to the front of `into`, and gives its length with the LF that ends
-/// it. `Done` has no line.
+/// Writes what tells a status to the front of `into`, and gives its length with the LF that ends
+/// it, by the name of the list and what was read of it.
 ///
-/// It takes no memory.
-pub fn message_line(status: &ListStatus, into: &mut [u8; LINE_ROOM]) -> usize
+/// That is a line with the cause, and below it the line of the list that is refused, of which the
+/// first 100 bytes are shown. `Done` has none. It takes no memory.
+pub fn message_line(
+    name: &[u8],
+    bytes: &[u8],
+    status: &ListStatus,
+    into: &mut [u8; LINE_ROOM],
+) -> usize
     ensures within { result ≤ LINE_ROOM }
-    ensures line { take result into.new ≡ message status.now }
+    ensures line { take result into.new ≡ message name.now bytes.now status.now }
 {
     match status {
         ListStatus::Done => 0,
@@ -27,9 +36,14 @@ pub fn message_line(status: &ListStatus, into: &mut [u8; LINE_ROOM]) -> usize
         }
         ListStatus::Refused(fault) => {
             let number = place_number(fault.place);
-            numbered_line(place_name(fault.place), number, list_kind(fault.kind), into)
+            let at = numbered_line(place_name(fault.place), number, list_kind(fault.kind), into);
+            append_quoted(into, at, bytes, *fault)
         }
-        ListStatus::ReadFault => append(into, 0, b"aclc-lists: read fault\n"),
+        ListStatus::ReadFault => {
+            let at = append(into, 0, b"aclc-lists: ");
+            let at = append_shown(into, at, name);
+            append(into, at, b": read fault\n")
+        }
         ListStatus::WriteFault => append(into, 0, b"aclc-lists: write fault\n"),
         ListStatus::OutOfMemory => append(into, 0, b"aclc-lists: out of memory\n"),
     }
@@ -39,7 +53,7 @@ pub fn message_line(status: &ListStatus, into: &mut [u8; LINE_ROOM]) -> usize
 fn numbered_line(subject: &[u8], number: u64, kind: &[u8], into: &mut [u8; LINE_ROOM]) -> usize
     requires subject { length subject.now ≤ 40 }
     requires kind { length kind.now ≤ 40 }
-    ensures within { result ≤ LINE_ROOM }
+    ensures within { result ≤ 115 }
     ensures line { take result into.new ≡ numbered subject.now number kind.now }
 {
     let at = append(into, 0, b"aclc-lists: ");
@@ -48,6 +62,54 @@ fn numbered_line(subject: &[u8], number: u64, kind: &[u8], into: &mut [u8; LINE_
     let at = append(into, at, b": ");
     let at = append(into, at, kind);
     append(into, at, b"\n")
+}
+
+/// Writes the line in which a fault stands, if it stands in one, at the place `at`.
+fn append_quoted(into: &mut [u8; LINE_ROOM], at: usize, bytes: &[u8], fault: ListFault) -> usize
+    requires { at ≤ 115 }
+    ensures within { result ≤ LINE_ROOM }
+    ensures line { take result into.new ≡ take at into.old ++ quoted bytes.now fault }
+{
+    if !stands_in_line(fault.kind) {
+        return at;
+    }
+    match line_of_place(bytes, fault.place) {
+        Some(line) => append_line(into, at, line),
+        None => at,
+    }
+}
+
+/// Writes what is shown of a line, below the message.
+fn append_line(into: &mut [u8; LINE_ROOM], at: usize, line: &[u8]) -> usize
+    requires { at ≤ 115 }
+    ensures within { result ≤ LINE_ROOM }
+    ensures line { take result into.new ≡ take at into.old ++ below (Some line.now) }
+{
+    let at = append(into, at, b"  ");
+    let at = append_shown(into, at, line);
+    append(into, at, b"\n")
+}
+
+/// Whether a fault stands in the line that its place names.
+fn stands_in_line(kind: ListKind) -> bool
+    ensures { result ≡ stands_in_line kind }
+{
+    match kind {
+        ListKind::CiscoLine(
+            cisco_reader::LineKind::NoList | cisco_reader::LineKind::NoEntries,
+        ) => false,
+        _ => true,
+    }
+}
+
+/// The line that a place names, if it names one.
+fn line_of_place(bytes: &[u8], place: ListPlace) -> Option<&[u8]>
+    ensures { option_map (λ line. line.now) result ≡ line_of_place bytes.now place }
+{
+    match place {
+        ListPlace::Line(number) => line_at(bytes, number),
+        ListPlace::Object(_) | ListPlace::Handle(_) => None,
+    }
 }
 
 /// What a place is called, before its number.

@@ -1,13 +1,12 @@
 //! The top call: words, a list and an output in, a status out.
 
-ghost use Rattle.std.specs.Prelude.{◌≡◌, ◌≢◌, ◌⊎◌, ◌≤◌, map, string_bytes, IfErr, IfOk};
+ghost use Rattle.std.specs.Prelude.{◌≡◌, ◌≢◌, ◌⊎◌, ◌≤◌, map, string_bytes};
 ghost use Rattle.acl_outside.specs.Heard.{Heard};
-ghost use Rattle.command_ending.specs.StepEffects.{PutsLine, outside};
-ghost use Rattle.list_tool.specs.Message.{message};
+ghost use Rattle.command_ending.specs.StepEffects.{PutsLine, heard_of, outside};
+ghost use Rattle.list_tool.specs.Message.{message, message_after};
 ghost use Rattle.list_tool.specs.Requests.{request_of};
-ghost use Rattle.list_tool.specs.RunsLists.{AnswersList, FaultsWords, Prints, RunsLists};
+ghost use Rattle.list_tool.specs.RunsLists.{AnswersList, Prints, RunsLists};
 ghost use Rattle.list_tool.specs.Steps.{IsReadOn, PutsText, unread_as};
-ghost use Rattle.list_tool.specs.Words.{command};
 
 use crate::message::message_line;
 use crate::printing::rule_file_text;
@@ -31,8 +30,8 @@ use std::alloc::Global;
 /// The list is read through `desk`. What is put to `out` is a rule file whose winner has, for every
 /// packet of the family, the number of the line that decides, or its verdict. Above its rules stand
 /// the texts of their lines as comments. Rules and chains of `nft` have handles in the place of
-/// lines. Where the status isn't `Done` a line that names the cause goes to `err`, whose failure
-/// changes nothing. The text is whole in memory before its first byte is put.
+/// lines. Where the status isn't `Done` a line that names the cause goes to `err`, and below it the
+/// line of the list that is refused, whose failure changes nothing. The text is whole in memory before its first byte is put.
 pub fn run_lists<D: Desk, O: Sink, E: Sink>(
     alloc: Global,
     words: &[String],
@@ -45,45 +44,41 @@ pub fn run_lists<D: Desk, O: Sink, E: Sink>(
         (outside (D.view desk.new) (O.view out.new) 0)
         (E.view err.old) (E.view err.new) result }
 {
-    let status = answer(alloc, words, desk, out);
-    put_message(&status, err);
-    status
-}
-
-/// The run without its message.
-fn answer<D: Desk, O: Sink>(
-    alloc: Global,
-    words: &[String],
-    desk: &mut D,
-    out: &mut O,
-) -> ListStatus
-    ensures answers { IfOk (command (map string_bytes words.now)) (λ request. AnswersList request
-        (outside (D.view desk.old) (O.view out.old) 0)
-        (outside (D.view desk.new) (O.view out.new) 0) result) }
-    ensures usage { IfErr (command (map string_bytes words.now)) (λ fault. FaultsWords
-        (outside (D.view desk.old) (O.view out.old) 0)
-        (outside (D.view desk.new) (O.view out.new) 0)
-        (ListStatus.Usage fault) result) }
-{
     match read_words(words) {
-        Ok(request) => answer_request(alloc, &request, desk, out),
-        Err(fault) => ListStatus::Usage(fault),
+        Ok(request) => answer_request(alloc, &request, desk, out, err),
+        Err(fault) => {
+            let status = ListStatus::Usage(fault);
+            put_message(b"", b"", &status, err);
+            status
+        }
     }
 }
 
-/// Does what was asked for.
-fn answer_request<D: Desk, O: Sink>(
+/// Does what was asked for, and tells how that ended.
+fn answer_request<D: Desk, O: Sink, E: Sink>(
     alloc: Global,
     request: &Request,
     desk: &mut D,
     out: &mut O,
+    err: &mut E,
 ) -> ListStatus
-    ensures { AnswersList (request_of request.now) (outside (D.view desk.old) (O.view out.old) 0)
+    ensures answers { AnswersList (request_of request.now)
+        (outside (D.view desk.old) (O.view out.old) 0)
         (outside (D.view desk.new) (O.view out.new) 0) result }
+    ensures message { PutsLine (message_after (heard_of (D.view desk.new)) result)
+        (E.view err.old) (E.view err.new) }
 {
     match read_file(alloc, request.file, MAX_LIST + 1, desk) {
-        Ok(bytes) => answer_bytes(alloc, &bytes, request, out),
-        Err(status) => unread(status),
+        Ok(bytes) => {
+            let status = answer_bytes(alloc, &bytes, request, out);
+            put_message(request.file.as_bytes(), &bytes, &status, err);
+            status
+        }
+        Err(status) => {
+            let status = unread(status);
+            put_message(request.file.as_bytes(), b"", &status, err);
+            status
+        }
     }
 }
 
@@ -123,11 +118,12 @@ fn put_text<O: Sink>(text: &[u8], out: &mut O) -> ListStatus
     }
 }
 
-/// Puts the line of a status to standard error. A failure there leaves the status as it is.
-fn put_message<E: Sink>(status: &ListStatus, err: &mut E)
-    ensures { PutsLine (message status.now) (E.view err.old) (E.view err.new) }
+/// Puts what tells a status to standard error, by the name of the list and what was read of it. A
+/// failure there leaves the status as it is.
+fn put_message<E: Sink>(name: &[u8], bytes: &[u8], status: &ListStatus, err: &mut E)
+    ensures { PutsLine (message name.now bytes.now status.now) (E.view err.old) (E.view err.new) }
 {
     let mut line = [0u8; LINE_ROOM];
-    let len = message_line(status, &mut line);
+    let len = message_line(name, bytes, status, &mut line);
     let _ = put_all(err, &line[..len]);
 }

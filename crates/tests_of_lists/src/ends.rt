@@ -47,12 +47,12 @@ const REFUSED: [Refused; 7] = [
     (
         &["ip6tables", "list", "INPUT"],
         SAVED,
-        "list: line 6: bad address",
+        "list: line 6: bad address\n  -A WEB -s 10.0.0.0/8 -j ACCEPT",
     ),
     (
         &["iptables", "list", "INPUT"],
         LIMITED,
-        "list: line 3: matches what no rule file says",
+        "list: line 3: matches what no rule file says\n  -A INPUT -m limit --limit 3/sec -j ACCEPT",
     ),
     (
         &["nft", "list", "in"],
@@ -77,6 +77,33 @@ fn what_no_rule_file_says_is_refused_by_its_place(rt: HostRuntime) -> Result<(),
         let told = told(&rt, cause)?;
         let want = (3, b"" as &[u8], told.as_slice(), [0; 4]);
         expect(&rt, words, list.as_bytes(), [0; 3], want)?;
+    }
+    Ok(())
+}
+
+/// So many times the letter a.
+fn letters(text: &mut Vec<u8>, count: usize) -> Result<(), Fail> {
+    for _ in 0..count {
+        text.push(b'a')?;
+    }
+    Ok(())
+}
+
+#[test]
+fn a_refused_line_is_shown_up_to_its_100th_byte_as_ascii(rt: HostRuntime) -> Result<(), Fail> {
+    let alloc = rt.alloc();
+    let words: &[&str] = &["iptables", "list", "INPUT"];
+    // A line of 10 bytes, among them an escape, a tab and a letter of two bytes, and so many more.
+    for (more, end) in [(0, "\n"), (90, "\n"), (91, "..\n")] {
+        let mut list = Vec::from_slice(alloc, b"*filter\n:INPUT ACCEPT [0:0]\n")?;
+        list.extend_from_slice(b"-X \x1b[2J\t\xc3\xbc")?;
+        letters(&mut list, more)?;
+        list.extend_from_slice(b"\nCOMMIT\n")?;
+        let mut told = Vec::from_slice(alloc, b"aclc-lists: list: line 3: no -A\n  -X ?[2J???")?;
+        letters(&mut told, more.min(90))?;
+        told.extend_from_slice(end.as_bytes())?;
+        let want = (3, b"" as &[u8], told.as_slice(), [0; 4]);
+        expect(&rt, words, &list, [0; 3], want)?;
     }
     Ok(())
 }

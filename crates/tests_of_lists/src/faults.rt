@@ -29,7 +29,7 @@ fn a_read_that_fails_prints_nothing(rt: HostRuntime) -> Result<(), Fail> {
         // A call opens the file, some read it, and one finds its end.
         let all = calls(list.len(), DESK_PIECE).saturating_add(2);
         for read in 1..all.saturating_add(1) {
-            let told: &[u8] = b"aclc-lists: read fault\n";
+            let told: &[u8] = b"aclc-lists: list: read fault\n";
             let want = (7, b"" as &[u8], told, [1, 0, 0, 0]);
             expect(&rt, words, list.as_bytes(), [read, 0, 0], want)?;
         }
@@ -47,7 +47,7 @@ fn a_read_that_fails_prints_nothing(rt: HostRuntime) -> Result<(), Fail> {
 
 #[test]
 fn a_file_that_isnt_there_is_a_read_fault(rt: HostRuntime) -> Result<(), Fail> {
-    let told: &[u8] = b"aclc-lists: read fault\n";
+    let told: &[u8] = b"aclc-lists: lists: read fault\n";
     let want = (7, b"" as &[u8], told, [0, 1, 0, 0]);
     expect(
         &rt,

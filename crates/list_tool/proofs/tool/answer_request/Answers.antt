@@ -1,18 +1,41 @@
-use Rattle.std.proofs.Common.{◌∙◌, sym}
+use Rattle.std.proofs.Common.{◌∙◌, List, ℕ, [], sym, subst, inl, inr}
+use Rattle.command_ending.specs.StepEffects.{PutsLine, heard_of}
 use Rattle.list_tool.specs.Requests.{request_of}
-use Rattle.list_tool.proofs.Endings.{answers_read, answers_unread}
+use Rattle.list_tool.proofs.Endings.{answers_read, answers_unread, said_read, said_unread}
 use Rattle.list_tool.proofs.tool.answer_request.Goals as goal
 
-pub returns-in-Ok : goal.returns-in-Ok
-returns-in-Ok g c =
+pub returns-in-Ok-clause-answers : goal.returns-in-Ok-clause-answers
+returns-in-Ok-clause-answers g c =
     answers_read (request_of c.args.request.now) (g.D.Desk.view c.args.desk.now) (g.D.Desk.view c.read_file.new.desk)
-    (g.O.Sink.view c.args.out.now) (g.O.Sink.view c.answer_bytes.new.out) c.in-Ok.bytes c.answer_bytes.result
-    c.in-Ok.ensures (λ file same. c.answer_bytes.ensures.prints file (same ∙ sym c.deref.ensures.value))
-    c.answer_bytes.ensures.count
-    c.answer_bytes.ensures.not_unread
+    (g.O.Sink.view c.args.out.now) (g.O.Sink.view c.answer_bytes.new.out) c.in-Ok.bytes c.answer_bytes-status.result
+    c.in-Ok.ensures (λ file same. c.answer_bytes-status.ensures.prints file (same ∙ sym c.deref.ensures.value))
+    c.answer_bytes-status.ensures.count
+    c.answer_bytes-status.ensures.not_unread
 
-pub returns-in-Err : goal.returns-in-Err
-returns-in-Err g c =
+pub returns-in-Ok-clause-message : goal.returns-in-Ok-clause-message
+returns-in-Ok-clause-message g c =
+    let read = c.in-Ok.ensures in
+    subst (λ (line : List ℕ). PutsLine line (g.E.Sink.view c.args.err.now) (g.E.Sink.view c.put_message.new.err))
+    (said_read (heard_of (g.D.Desk.view c.read_file.new.desk)) (heard_of (g.D.Desk.view c.args.desk.now)) read.file
+    c.as_bytes.result.now c.deref-2.result.now c.answer_bytes-status.result read.heard
+    read.named (read.bytes ∙ sym c.deref-2.ensures.value))
+    c.put_message.ensures
+
+pub returns-in-Err-clause-answers : goal.returns-in-Err-clause-answers
+returns-in-Err-clause-answers g c =
     rw c.unread.ensures
     (answers_unread (request_of c.args.request.now) (g.D.Desk.view c.args.desk.now)
     (g.D.Desk.view c.read_file.new.desk) (g.O.Sink.view c.args.out.now) c.in-Err.status c.in-Err.ensures)
+
+pub returns-in-Err-clause-message : goal.returns-in-Err-clause-message
+returns-in-Err-clause-message g c =
+    let read = c.in-Err.ensures in
+    rw c.unread.ensures
+    (subst (λ (line : List ℕ). PutsLine line (g.E.Sink.view c.args.err.now) (g.E.Sink.view c.put_message.new.err))
+    (said_unread (heard_of (g.D.Desk.view c.read_file.new.desk)) (heard_of (g.D.Desk.view c.args.desk.now)) read.file
+    c.as_bytes.result.now c.in-Err.status read.heard
+    read.named (elim read.fault [
+      | inl full ↦ inl full
+      | inr fault ↦ inr fault.0
+    ]))
+    c.put_message.ensures)
