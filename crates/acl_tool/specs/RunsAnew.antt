@@ -12,4 +12,4 @@ abbrev pub IsRunOfAclc : ℕ → ℕ → List (List ℕ) → World → World →
 IsRunOfAclc steps_old steps_new words old new code =
     (status : Status) × (code ≡ code_of status)
     × Runs words (outside old.desk old.out steps_old) (outside new.desk new.out steps_new) old.err
-      new.err status
+    new.err status

@@ -12,4 +12,4 @@ abbrev pub IsRunOfLists : List (List ℕ) → World → World → ℕ → Type 0
 IsRunOfLists words old new code =
     (status : ListStatus) × (code ≡ code_of status)
     × RunsLists words (outside old.desk old.out 0) (outside new.desk new.out 0) old.err new.err
-      status
+    status

@@ -32,18 +32,20 @@ pub fn run_words<P: Program>(
     ensures no_words { words ≡ None → exit_status result ≡ 1 }
 {
     let held = HeldStreams::new(rt);
-    let (code, _, _) =
-        run_over_streams(&held, program, rt, rt.alloc(), words, rt.stdout(), rt.stderr());
+    let (code, _, _) = run_over_streams(
+        &held,
+        program,
+        rt,
+        rt.alloc(),
+        words,
+        rt.stdout(),
+        rt.stderr(),
+    );
     code
 }
 
 /// Runs the words over standard output and standard error, while closed streams are held.
-fn run_over_streams<
-    P: Program,
-    R: Files,
-    O: Write + AsRawFd + Drop,
-    E: Write + AsRawFd + Drop,
->(
+fn run_over_streams<P: Program, R: Files, O: Write + AsRawFd + Drop, E: Write + AsRawFd + Drop>(
     _held: &HeldStreams,
     program: &mut P,
     rt: &R,

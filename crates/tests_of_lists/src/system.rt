@@ -42,10 +42,28 @@ fn a_list_of_a_file_comes_to_its_rule_file(rt: HostRuntime) -> Result<(), Fail> 
     let words = ["aclc-lists", "iptables", "lists_test.list", "INPUT"];
     ends(&rt, &words, 0, SAVED_LINES, "")?;
     let words = ["aclc-lists", "iptables", "lists_test.list", "NONE"];
-    ends(&rt, &words, 3, "", "aclc-lists: list: line 0: no such chain\n")?;
+    ends(
+        &rt,
+        &words,
+        3,
+        "",
+        "aclc-lists: list: line 0: no such chain\n",
+    )?;
     let words = ["aclc-lists", "iptables", "lists_no_such.list", "INPUT"];
-    ends(&rt, &words, 7, "", "aclc-lists: lists_no_such.list: read fault\n")?;
-    ends(&rt, &[], 2, "", "aclc-lists: usage: word 1: missing command\n")?;
+    ends(
+        &rt,
+        &words,
+        7,
+        "",
+        "aclc-lists: lists_no_such.list: read fault\n",
+    )?;
+    ends(
+        &rt,
+        &[],
+        2,
+        "",
+        "aclc-lists: usage: word 1: missing command\n",
+    )?;
     for name in ["lists_test.list", "lists_test.out", "lists_test.err"] {
         fs::remove_file(&rt, name)?;
     }
