@@ -67,11 +67,11 @@ premises request =
 
 -- a chain whose packets come from an interface
 of_input : premises (record {
-      form = Iptables;
-      file = codes "fw.list";
-      chain = codes "INPUT";
-      options = record { answers = Line; assumed = codes "in=eth0" };
-    })
+  form = Iptables;
+  file = codes "fw.list";
+  chain = codes "INPUT";
+  options = record { answers = Line; assumed = codes "in=eth0" };
+})
     ≡ codes "IPv4 packets that come to this chain of filter, other tables apart:"
     ∷ codes "INPUT"
     ∷ codes "Of each of them this is assumed:"
@@ -84,11 +84,11 @@ of_input = refl
 
 -- a list of a router, of whose packets nothing is assumed
 of_router : premises (record {
-      form = Cisco;
-      file = codes "edge";
-      chain = codes "110";
-      options = record { answers = Verdict; assumed = [] };
-    })
+  form = Cisco;
+  file = codes "edge";
+  chain = codes "110";
+  options = record { answers = Verdict; assumed = [] };
+})
     ≡ codes "IPv4 packets that this access list is applied to:"
     ∷ codes "110"
     ∷ codes "Of each of them this is assumed:"

@@ -16,8 +16,8 @@ ghost use Rattle.list_tool.specs.Printed.{text_of_rules};
 ghost use Rattle.list_tool.specs.Premises.{premises};
 ghost use Rattle.list_tool.specs.Requests.{request_of};
 
-use crate::premises::premises;
 use crate::listing::{at_no_place, family_of, listed_rules, rule_place};
+use crate::premises::premises;
 use crate::status::{ListFault, ListKind, Refusal};
 use crate::words::{Form, Request};
 use classbench_reader::MAX_RULE_FILE;

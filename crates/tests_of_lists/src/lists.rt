@@ -11,7 +11,8 @@ COMMIT
 ";
 
 /// Its rules, each with the number of its line.
-pub(crate) const SAVED_LINES: &str = "# IPv4 packets that come to this chain of filter, other tables apart:
+pub(crate) const SAVED_LINES: &str =
+    "# IPv4 packets that come to this chain of filter, other tables apart:
 # INPUT
 # Of each of them this is assumed:
 # nothing
@@ -25,7 +26,8 @@ pub(crate) const SAVED_LINES: &str = "# IPv4 packets that come to this chain of 
 ";
 
 /// The same with verdicts: 1 accepts and 2 drops.
-pub(crate) const SAVED_VERDICTS: &str = "# IPv4 packets that come to this chain of filter, other tables apart:
+pub(crate) const SAVED_VERDICTS: &str =
+    "# IPv4 packets that come to this chain of filter, other tables apart:
 # INPUT
 # Of each of them this is assumed:
 # nothing
@@ -42,7 +44,8 @@ pub(crate) const SAVED_VERDICTS: &str = "# IPv4 packets that come to this chain 
 pub(crate) const SAVED6: &str = "*filter\n:FORWARD DROP [0:0]\nCOMMIT\n";
 
 /// A chain without rules lets its policy decide, which has the number of its line.
-pub(crate) const SAVED6_LINES: &str = "# IPv6 packets that come to this chain of filter, other tables apart:
+pub(crate) const SAVED6_LINES: &str =
+    "# IPv6 packets that come to this chain of filter, other tables apart:
 # FORWARD
 # Of each of them this is assumed:
 # nothing
@@ -84,7 +87,8 @@ pub(crate) const RULESET: &str = r#"{"nftables":[
 "#;
 
 /// Its rules, each with its handle, the chain's where its policy decides.
-pub(crate) const RULESET_LINES: &str = "# IPv4 packets that come to this base chain, other base chains apart:
+pub(crate) const RULESET_LINES: &str =
+    "# IPv4 packets that come to this base chain, other base chains apart:
 # in
 # Of each of them this is assumed:
 # nothing
