@@ -95,9 +95,8 @@ fn stands_in_line(kind: ListKind) -> bool
     ensures { result ≡ stands_in_line kind }
 {
     match kind {
-        ListKind::CiscoLine(
-            cisco_reader::LineKind::NoList | cisco_reader::LineKind::NoEntries,
-        ) => false,
+        ListKind::CiscoLine(cisco_reader::LineKind::NoList | cisco_reader::LineKind::NoEntries) =>
+            false,
         _ => true,
     }
 }
