@@ -159,7 +159,7 @@ unchanged chains turns (suc more) all is same =
     ap (λ n. shallow n chains) next ∙ ap (turn chains) (unchanged chains turns more (more + turns) refl same) ∙ same
 
 -- so they are those of all turns
-pub last_turn : (chains : Chains) (turns : ℕ) → turns < length chains
-    → shallow (suc turns) chains ≡ shallow turns chains → shallow (suc turns) chains ≡ ending chains
-last_turn chains turns few same =
-    same ∙ sym (unchanged chains turns (length chains - turns) (length chains) (omega (arith, few)) same)
+pub last_turn : (chains : Chains) (turns all : ℕ) → turns < all
+    → shallow (suc turns) chains ≡ shallow turns chains → shallow (suc turns) chains ≡ shallow all chains
+last_turn chains turns all few same =
+    same ∙ sym (unchanged chains turns (all - turns) all (omega (arith, few)) same)

@@ -10,16 +10,16 @@ use Rattle.rule_set.specs.Winner.{verdict}
 use Rattle.table_sizes.specs.Sizes.{max_rules}
 use Rattle.list_chains.specs.declared.span.Span.{Span}
 use Rattle.list_chains.specs.declared.fault.LimitFault.{LimitFault}
-use Rattle.list_chains.specs.declared.fault.LimitFault.TheVariants.{TooManyRules}
+use Rattle.list_chains.specs.declared.fault.LimitFault.TheVariants.{TooManyRules, TooDeep}
 use Rattle.list_chains.specs.declared.fault.ChainsFault.{ChainsFault}
 use Rattle.list_chains.specs.declared.fault.ChainsFault.TheVariants.{Limit}
-use Rattle.list_chains.specs.declared.turning.TheConstants.{MAX_STEPS}
+use Rattle.list_chains.specs.declared.turning.TheConstants.{MAX_DEPTH, MAX_STEPS}
 use Rattle.list_chains.specs.declared.turning.Turning.{Turning}
 use Rattle.list_chains.specs.declared.turning.Turn.{Turn}
 use Rattle.list_chains.specs.declared.turning.Turn.TheVariants.{More, Done, Full}
 use Rattle.list_chains.specs.Spans.{IsFieldSpan, in_box, whole_box}
 use Rattle.list_chains.specs.Chains.{at_or, decides}
-use Rattle.list_chains.specs.Jumps.{ending, way}
+use Rattle.list_chains.specs.Jumps.{ending, shallow, way}
 use Rattle.list_chains.specs.Tasks.{Chains, TaskView}
 use Rattle.list_chains.specs.Values.{box_rows}
 use Rattle.list_chains.specs.Made.{Making, made, first_tasks, rows_made, rules_before}
@@ -29,13 +29,25 @@ abbrev pub or_limit : Result (List RuleView) LimitFault → Result (List RuleVie
 or_limit (Ok rules) = Ok rules
 or_limit (Err fault) = Err (Limit fault)
 
--- the rules of a chain that packets come to, or why there are none: jumps come to an end first, and
--- then there are so many steps and rules at most
+-- how many chains jumps lead through at most, that of the first rule counted
+abbrev pub max_depth : ℕ
+max_depth = MAX_DEPTH
+
+-- the rules of a chain from which jumps come to an end: they lead through so many chains at most,
+-- and then there are so many steps and rules at most
+abbrev pub turned_within : ℕ → List FieldDef → Chains → ℕ → ℕ →
+    Result (List RuleView) ChainsFault
+turned_within depth layout chains start policy =
+    if at_or (shallow depth chains) start false
+    then or_limit (made layout chains policy MAX_STEPS max_rules None
+    (first_tasks (length chains) start (whole_box layout)))
+    else Err (Limit TooDeep)
+
+-- the rules of a chain that packets come to, or why there are none: jumps come to an end first
 abbrev pub turned : List FieldDef → Chains → ℕ → ℕ → Result (List RuleView) ChainsFault
 turned layout chains start policy =
     if at_or (ending chains) start false
-    then or_limit (made layout chains policy MAX_STEPS max_rules None
-    (first_tasks (length chains) start (whole_box layout)))
+    then turned_within max_depth layout chains start policy
     else Err (way (length chains) chains (ending chains) start)
 
 -- A set for the layout has these rules, and the winner of each key has the answer of the chains.

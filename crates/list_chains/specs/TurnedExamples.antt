@@ -9,21 +9,23 @@
 --     6 -A WEB -s 10.0.0.0/8 -j ACCEPT
 --     7 -A LAN -p tcp --dport 443 -j ACCEPT
 --     8 -P FORWARD DROP
-use Rattle.std.specs.Prelude.{◌≡◌, ℕ, ◌++◌, List, [], ◌∷◌, length, Ok, Err, None, refl}
+use Rattle.std.specs.Prelude.{◌≡◌, ℕ, ◌++◌, Bool, true, false, List, [], ◌∷◌, length, Ok, Err, None}
+use Rattle.std.specs.Prelude.{refl}
 use Rattle.field_defs.specs.Layout.{ip4_fields}
 use Rattle.list_chains.specs.declared.chain.Target.{Target}
 use Rattle.list_chains.specs.declared.chain.Target.TheVariants.{Decide, Return, Jump, Go}
-use Rattle.list_chains.specs.declared.fault.LimitFault.TheVariants.{TooManyRules, TooManySteps}
-use Rattle.list_chains.specs.declared.fault.ChainsFault.TheVariants.{NoChain, Loop}
+use Rattle.list_chains.specs.declared.fault.LimitFault.TheVariants.{TooManyRules, TooManySteps, TooDeep}
+use Rattle.list_chains.specs.declared.fault.ChainsFault.TheVariants.{NoChain, Loop, Limit}
 use Rattle.list_chains.specs.declared.span.Span.{Span}
 use Rattle.list_chains.specs.Spans.{box_meet, in_box, whole_box}
 use Rattle.list_chains.specs.Chains.{ListRule, decides}
 use Rattle.list_chains.specs.Flat.{flattened}
+use Rattle.list_chains.specs.Jumps.{shallow}
 use Rattle.list_chains.specs.Loops.{IsOnLoop}
 use Rattle.list_chains.specs.Tasks.{Chains}
 use Rattle.list_chains.specs.Made.{made, first_tasks}
 use Rattle.list_chains.specs.Ranked.{rule_of}
-use Rattle.list_chains.specs.Turned.{turned}
+use Rattle.list_chains.specs.Turned.{max_depth, turned, turned_within}
 
 -- the numbers from one to another
 infixl 20 ◌to◌
@@ -140,6 +142,22 @@ itself = refl
 nowhere : turned [] ((plain 1 (Jump 1) ∷ []) ∷ (plain 2 Return ∷ plain 3 (Jump 5) ∷ []) ∷ []) 0 9
     ≡ Err (NoChain (record { chain = 1; rule = 1 }))
 nowhere = refl
+
+-- jumps that lead through two chains are followed where two are the limit, and not where one is
+abbrev shallow_by : ℕ → List Bool
+shallow_by depth = shallow depth cut_short
+
+two_chains : shallow_by 2 ≡ true ∷ true ∷ []
+two_chains = refl
+
+one_chain : shallow_by 1 ≡ false ∷ true ∷ []
+one_chain = refl
+
+too_deep : turned_within 1 [] cut_short 0 9 ≡ Err (Limit TooDeep)
+too_deep = refl
+
+depth : max_depth ≡ 1024
+depth = refl
 
 -- seven steps end with one rule, as what follows the jump is decided; fewer don't, nor has a list
 -- of no rules room

@@ -18,6 +18,8 @@ pub enum LimitFault {
     TooManyRules,
     /// The chains lead to more ways than are followed: 16,777,216 steps don't end.
     TooManySteps,
+    /// Jumps lead through more chains than are followed, 1,024.
+    TooDeep,
 }
 
 /// Why chains aren't turned into rules.
@@ -27,7 +29,7 @@ pub enum ChainsFault {
     NoChain(RulePlace),
     /// The rule lies on a loop: it and some others lead from its chain back to it.
     Loop(RulePlace),
-    /// The rules would be too many.
+    /// There would be too many rules or steps, or jumps lead through too many chains.
     Limit(LimitFault),
     /// There isn't enough memory.
     OutOfMemory,

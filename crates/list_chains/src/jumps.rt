@@ -3,21 +3,33 @@
 ghost use Rattle.std.specs.Prelude.{◌≡◌, ◌<◌, [], length, map, false, true, IfOk};
 ghost use Rattle.std.specs.List.{list_all};
 ghost use Rattle.list_chains.specs.Chains.{at_or};
-ghost use Rattle.list_chains.specs.Jumps.{bad_chain, bad_rule, ending, leads_well, led_to, way};
+ghost use Rattle.list_chains.specs.Jumps.{bad_chain, bad_rule, ending, leads_well, led_to, shallow, way};
 
 use crate::chain::{Chain, ChainRule, Target};
 use crate::fault::{ChainsFault, RulePlace};
 use std::alloc::{AllocError, Global};
 
 /// For each chain whether jumps from it come to an end. It takes the memory of two marks a chain.
-///
-/// A turn that marks no chain more is the last one: each turn after it would mark the same. So
-/// there are hardly more turns than chains on the longest way, and never more than chains.
 pub(crate) fn ending(alloc: Global, chains: &[Chain]) -> Result<Vec<bool>, AllocError>
     ensures { IfOk result (λ marks. marks.items ≡ ending chains.now) }
 {
+    shallow(alloc, chains, chains.len())
+}
+
+/// For each chain whether jumps from it lead through at most so many chains, itself counted, and
+/// all of them are there. It takes the memory of two marks a chain.
+///
+/// A turn that marks no chain more is the last one: each turn after it would mark the same. So
+/// there are hardly more turns than chains on the longest way.
+pub(crate) fn shallow(
+    alloc: Global,
+    chains: &[Chain],
+    depth: usize,
+) -> Result<Vec<bool>, AllocError>
+    ensures { IfOk result (λ marks. marks.items ≡ shallow depth chains.now) }
+{
     let mut marks = Vec::new(alloc);
-    for _ in 0..chains.len() {
+    for _ in 0..depth {
         let more = marked(alloc, chains, &marks)?;
         if are_same(&marks, &more) {
             return Ok(more);

@@ -33,4 +33,4 @@ pub use fault::{ChainsFault, LimitFault, RulePlace};
 pub use jumps::led_to;
 pub use negation::others;
 pub use span::{Span, SpanBox, common};
-pub use turning::rules_of_chains;
+pub use turning::{MAX_DEPTH, rules_of_chains};

@@ -1,6 +1,6 @@
 //! Chains in, one rule set that answers as they do out.
 
-ghost use Rattle.std.specs.Prelude.{◌≡◌, ◌<◌, ◌≤◌, ◌+◌, ◌-◌, ◌⊎◌, [], ◌++◌, length, pos, All, None};
+ghost use Rattle.std.specs.Prelude.{◌≡◌, ◌<◌, ◌≤◌, ◌+◌, ◌-◌, ◌⊎◌, [], ◌++◌, length, pos, false, All, None};
 ghost use Rattle.std.specs.Prelude.{IfOk, MatchOption, MatchResult, OnOk, Ok, Err};
 ghost use Rattle.std.specs.List.{AllZip};
 ghost use Rattle.table_sizes.specs.Sizes.{max_rules};
@@ -8,17 +8,19 @@ ghost use Rattle.field_defs.specs.Lawful.{IsLayout};
 ghost use Rattle.rule_set.specs.Lawful.{IsLawfulValue};
 ghost use Rattle.list_chains.specs.declared.fault.ChainsFault.{ChainsFault};
 ghost use Rattle.list_chains.specs.declared.fault.RulePlace.{RulePlace};
+ghost use Rattle.list_chains.specs.Chains.{at_or};
+ghost use Rattle.list_chains.specs.Jumps.{shallow};
 ghost use Rattle.list_chains.specs.Loops.{IsOnLoop};
 ghost use Rattle.list_chains.specs.Made.{is_decided, first_tasks};
 ghost use Rattle.list_chains.specs.Ranked.{answered, every_category, ranked};
 ghost use Rattle.list_chains.specs.Spans.{IsFieldSpan, whole_box};
 ghost use Rattle.list_chains.specs.StepLaws.{IsNoAnswer};
 ghost use Rattle.list_chains.specs.Turned.{AnswersAsChains, IsTurning, Turns, Writes, left_made};
-ghost use Rattle.list_chains.specs.Turned.{turned};
+ghost use Rattle.list_chains.specs.Turned.{max_depth, turned};
 
 use crate::chain::Chain;
 use crate::fault::{ChainsFault, LimitFault};
-use crate::jumps::{ending, is_marked, way};
+use crate::jumps::{ending, is_marked, shallow, way};
 use crate::span::SpanBox;
 use crate::steps::{put_entry, put_leaving, put_steps};
 use crate::task::{Act, Tasks};
@@ -30,6 +32,9 @@ use table_sizes::MAX_RULES;
 
 /// The most steps that are made, the last of which finds nothing left to do.
 pub(crate) const MAX_STEPS: u32 = 16_777_216;
+
+/// The most chains that jumps lead through, that of the first rule counted.
+pub const MAX_DEPTH: usize = 1024;
 
 /// The rules so far, the last box that was written, and what is left to do.
 #[derive(Drop)]
@@ -59,8 +64,10 @@ pub(crate) enum Turn {
 /// `NoChain` and `Loop` come exactly where a jump leads to a chain that isn't there, or jumps lead
 /// through more chains than there are: the rule is on the way from `start` along first such rules,
 /// and that of `Loop` lies on a loop.
-/// `Limit` comes exactly where there are too many steps or rules. `OutOfMemory` may come in the
-/// place of an answer. It takes memory in proportion to the rules and to what is left to do.
+/// `Limit` comes exactly where jumps from `start` lead through more than [`MAX_DEPTH`] chains, or
+/// there are too many steps or rules. `OutOfMemory` may come in the place of an answer. It takes
+/// memory in proportion to the rules and to what is left to do. For each of those chains that is a
+/// place in each before it.
 pub fn rules_of_chains(
     alloc: Global,
     layout: Layout,
@@ -81,11 +88,23 @@ pub fn rules_of_chains(
     if !is_marked(&marks, start) {
         return Err(way(chains, &marks, start));
     }
+    let near = is_shallow(alloc, chains, start)?;
+    if !near {
+        return Err(ChainsFault::Limit(LimitFault::TooDeep));
+    }
     let turning = first_turning(alloc, layout, chains.len(), start)?;
     match all_turns(alloc, turning, chains, policy)? {
         Ok(set) => Ok(set),
         Err(fault) => Err(ChainsFault::Limit(fault)),
     }
+}
+
+/// Whether jumps from a chain lead through no more chains than are followed.
+fn is_shallow(alloc: Global, chains: &[Chain], start: usize) -> Result<bool, AllocError>
+    ensures { IfOk result (λ is. is ≡ at_or (shallow max_depth chains.now) start false) }
+{
+    let marks = shallow(alloc, chains, MAX_DEPTH)?;
+    Ok(is_marked(&marks, start))
 }
 
 /// What is left to do at first: all keys come to a chain.

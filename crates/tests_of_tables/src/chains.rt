@@ -2,7 +2,8 @@
 
 use field_defs::ip4_layout;
 use list_chains::{
-    Chain, ChainRule, ChainsFault, RulePlace, Span, SpanBox, Target, others, rules_of_chains,
+    Chain, ChainRule, ChainsFault, LimitFault, MAX_DEPTH, RulePlace, Span, SpanBox, Target, others,
+    rules_of_chains,
 };
 use rule_set::{RuleSet, plain_verdict};
 use std::alloc::Global;
@@ -156,6 +157,31 @@ fn jumps_that_do_not_end_are_refused(rt: HostRuntime) -> Result<(), Fail> {
             Err(ChainsFault::Loop(RulePlace { chain: 0, rule: 1 }))
         )
     );
+    Ok(())
+}
+
+/// So many chains, each of which jumps to the next one, and the last to the end of its own.
+fn nested(alloc: Global, count: usize) -> Result<Vec<Chain>, Fail> {
+    let mut chains = Vec::new(alloc);
+    for place in 1..count {
+        let next = [rule(alloc, 1, ANY, PORTS, Target::Jump(place))?];
+        chains.push(Chain::new(Vec::from_array(alloc, next)?))?;
+    }
+    let last = [rule(alloc, 2, LAN, PORTS, Target::Return)?];
+    chains.push(Chain::new(Vec::from_array(alloc, last)?))?;
+    Ok(chains)
+}
+
+#[test]
+fn jumps_through_too_many_chains_are_refused(rt: HostRuntime) -> Result<(), Fail> {
+    let alloc = rt.alloc();
+    let most = nested(alloc, MAX_DEPTH)?;
+    assert!(&rt; most.len() > 0);
+    assert!(&rt; rules_of_chains(alloc, ip4_layout(), &most, 0, 9).is_ok());
+    let more = nested(alloc, MAX_DEPTH + 1)?;
+    assert!(&rt; more.len() > 0);
+    let refused = rules_of_chains(alloc, ip4_layout(), &more, 0, 9);
+    assert!(&rt; matches!(refused, Err(ChainsFault::Limit(LimitFault::TooDeep))));
     Ok(())
 }
 

@@ -7,7 +7,7 @@ use Rattle.list_chains.specs.declared.fault.ChainsFault.TheVariants.{Loop}
 use Rattle.list_chains.specs.Jumps as jumps
 use Rattle.list_chains.specs.Jumps.{ending}
 use Rattle.list_chains.specs.Made.{first_tasks}
-use Rattle.list_chains.specs.Turned.{or_limit}
+use Rattle.list_chains.specs.Turned.{max_depth, or_limit}
 use Rattle.list_chains.proofs.LoopedWays.{way_on_loop}
 use Rattle.list_chains.proofs.MadeRules.{rules_answer_as_the_chains}
 use Rattle.list_chains.proofs.Turnings.{start_made, every_bit}
@@ -25,9 +25,11 @@ returns-in-Ok-clause-rules c =
     let marked : at_or (ending chains) c.args.start false ≡ true =
     ap (λ marks. at_or marks c.args.start false) (sym (c.deref.ensures.value ∙ c.in_ok-marks.ensures))
     ∙ sym c.is_marked.ensures ∙ c.if-not-is_marked.false in
+    let few : at_or (jumps.shallow max_depth chains) c.args.start false ≡ true =
+    sym c.in_ok-near.ensures ∙ c.if-not-near.false in
     record {
       layout = said.0 ∙ began.1;
-      rules = rw marked (ap or_limit made_so);
+      rules = rw (marked, few) (ap or_limit made_so);
       verdicts = λ key category bytes small.
           rules_answer_as_the_chains layout chains (length chains) c.args.start c.args.policy MAX_STEPS
           c.in-Ok.set.rules key category bytes (every_bit category small) made_so;
