@@ -38,7 +38,7 @@ use Rattle.list_tool.specs.declared.status.ListFault.{ListFault}
 use Rattle.list_tool.specs.declared.status.ListKind.{ListKind}
 use Rattle.list_tool.specs.declared.status.ListKind.TheVariants.{Line, CiscoLine, Object, Rule, BaseChain}
 use Rattle.list_tool.specs.declared.status.ListKind.TheVariants.{NoChain, NoPolicy, NoTarget, Loop}
-use Rattle.list_tool.specs.declared.status.ListKind.TheVariants.{TooManyRules, TooManySteps}
+use Rattle.list_tool.specs.declared.status.ListKind.TheVariants.{TooDeep, TooManyRules, TooManySteps}
 use Rattle.list_tool.specs.declared.status.ListPlace.{ListPlace}
 use Rattle.list_tool.specs.declared.status.ListPlace.TheVariants as placed
 use Rattle.list_tool.specs.declared.status.Refusal.{Refusal}
@@ -149,6 +149,7 @@ unturned form way (fault.NoChain at) = at_rule form way.chains at (nowhere_kind 
 unturned form way (fault.Loop at) = at_rule form way.chains at Loop
 unturned form way (fault.Limit limit.TooManyRules) = at_place (no_place form) TooManyRules
 unturned form way (fault.Limit limit.TooManySteps) = at_place (no_place form) TooManySteps
+unturned form way (fault.Limit limit.TooDeep) = at_place (no_place form) TooDeep
 unturned form way fault.OutOfMemory = at_place (no_place form) TooManySteps
 
 -- and so as a refusal

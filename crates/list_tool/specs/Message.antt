@@ -143,6 +143,7 @@ list_text kind.NoTarget = codes "target not there"
 list_text kind.Loop = codes "loop"
 list_text kind.TooManyRules = codes "too many rules"
 list_text kind.TooManySteps = codes "too many ways through the chains"
+list_text kind.TooDeep = codes "jumps through more than 1,024 chains"
 list_text kind.NoPrefix = codes "addresses without a prefix"
 list_text kind.TextTooLong = codes "rule file too long"
 

@@ -307,6 +307,9 @@ fn unturned(form: Form, way: &Way, fault: ChainsFault) -> Refusal
         ChainsFault::Limit(LimitFault::TooManySteps) => {
             Refusal::Fault(at_no_place(form, ListKind::TooManySteps))
         }
+        ChainsFault::Limit(LimitFault::TooDeep) => {
+            Refusal::Fault(at_no_place(form, ListKind::TooDeep))
+        }
         ChainsFault::OutOfMemory => Refusal::OutOfMemory,
     }
 }

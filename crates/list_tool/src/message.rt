@@ -147,6 +147,7 @@ fn list_kind(kind: ListKind) -> &'static [u8]
         ListKind::Loop => b"loop",
         ListKind::TooManyRules => b"too many rules",
         ListKind::TooManySteps => b"too many ways through the chains",
+        ListKind::TooDeep => b"jumps through more than 1,024 chains",
         ListKind::NoPrefix => b"addresses without a prefix",
         ListKind::TextTooLong => b"rule file too long",
     }

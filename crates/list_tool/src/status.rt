@@ -51,6 +51,8 @@ pub enum ListKind {
     TooManyRules,
     /// The chains lead to more ways than are followed. It stands in no line.
     TooManySteps,
+    /// Jumps lead through more chains than are followed. It stands in no line.
+    TooDeep,
     /// The packets of the rule have addresses that no prefix says.
     NoPrefix,
     /// The rule file would have more bytes than one may have. It stands in no line.
