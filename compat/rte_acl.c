@@ -3,9 +3,10 @@
  * The calls of rte_acl.h over those of aclc.h.
  *
  * Rules are kept as they are added, and are read when a build says what their fields are. A build
- * makes a table and a set of handles of it. A call of classify marks a place that no other call
- * has, takes its handle of the table that there is, gathers the bytes of the fields of some buffers
- * into keys, and has aclc.h classify them. So a build may change the table while calls go on.
+ * makes a table. A call of classify marks a place that no other call has, takes the handle that the
+ * table has for that place, gathers the bytes of the fields of some buffers into keys, and has
+ * aclc.h classify them. So a build may change the table while calls go on. Places and handles are
+ * made when a call first needs them: most contexts are used by a few threads.
  *
  * This file isn't proved. What is decided of rules and keys lies below aclc.h, where all is proved:
  * which layouts and values are lawful, which rule wins, and how large a table is.
@@ -14,12 +15,14 @@
 
 #include <aclc.h>
 #include <pthread.h>
-#include <sched.h>
 #include <stdatomic.h>
 #include <stdbool.h>
+#include <threads.h>
+#include <time.h>
 
 enum {
-    HANDLES = 128,         /* calls of classify that may be under way on one context */
+    PLACES = 128,          /* calls of classify that may be under way on one context */
+    SHORT_SLEEP = 50000,   /* nanoseconds */
     CACHE_LINE = 64,       /* bytes */
     WORD = 8,              /* bytes of a word of a table */
     USUAL_WORDS = 8388608, /* 64 MiB */
@@ -36,7 +39,7 @@ _Static_assert((int)RTE_ACL_FIELD_TYPE_BITMASK == (int)ACLC_FIELD_BITMASK, "kind
  * A place for a call that is under way: how often one began or ended there, so that the number is
  * odd while one is. Threads don't share the line that it lies in, nor that of the call's handle.
  */
-struct mark {
+struct place {
     _Alignas(CACHE_LINE) atomic_ulong changes;
 };
 
@@ -44,14 +47,15 @@ struct handle {
     _Alignas(CACHE_LINE) struct aclc_table table;
 };
 
-/* What a build makes: where the bytes of a key lie in a buffer, and a handle for each mark. */
+/* What a build makes: where the bytes of a key lie in a buffer, and handles of the table. */
 struct built {
     uint32_t num_categories;
     uint64_t words;
     uint32_t first; /* the offset of the first field */
     uint32_t groups;
     uint32_t offsets[MOST_GROUPS];
-    struct handle handles[HANDLES];
+    struct aclc_table table;        /* of which the others are made; see sharing */
+    struct handle *handles[PLACES]; /* NULL before a call at the place needs one */
 };
 
 struct rte_acl_ctx {
@@ -62,9 +66,9 @@ struct rte_acl_ctx {
     uint32_t rule_size;
     uint32_t max_rules;
     _Atomic uint32_t num_rules;
-    uint8_t *rules;                /* num_rules times rule_size bytes */
-    struct mark *marks;            /* HANDLES of them */
-    _Atomic(struct built *) built; /* NULL where there is no table */
+    uint8_t *rules;                  /* num_rules times rule_size bytes */
+    _Atomic(struct place *) *places; /* PLACES of them, of which the first is there */
+    _Atomic(struct built *) built;   /* NULL where there is no table */
 };
 
 #include "rte_acl_build.h"
@@ -72,6 +76,55 @@ struct rte_acl_ctx {
 /* All contexts, in the order in which they were made, and the lock of the links between them. */
 static struct rte_acl_ctx *contexts;
 static pthread_mutex_t lock = PTHREAD_MUTEX_INITIALIZER;
+
+/*
+ * Sleeps for a moment. A thread that waits for another may have a real-time priority, and the other
+ * a lower one on the same processor: it would never run if the first yielded and went on.
+ */
+static void sleep_shortly(void)
+{
+    thrd_sleep(&(struct timespec){.tv_nsec = SHORT_SLEEP}, NULL);
+}
+
+/* Nothing changes the links, and no handle is being made, while the process is copied. */
+static void before_fork(void)
+{
+    pthread_mutex_lock(&lock);
+    pthread_mutex_lock(&sharing);
+}
+
+static void after_fork(void)
+{
+    pthread_mutex_unlock(&sharing);
+    pthread_mutex_unlock(&lock);
+}
+
+/*
+ * In a forked child. The threads whose calls were under way aren't there, and so no call will end:
+ * their places are free. What they did with their handles isn't known, so those are left, and made
+ * anew when they are needed.
+ */
+static void after_fork_in_child(void)
+{
+    for (struct rte_acl_ctx *ctx = contexts; ctx != NULL; ctx = ctx->next)
+        for (int at = 0; at < PLACES; at++) {
+            struct place *place = ctx->places[at];
+            if (place == NULL || place->changes % 2 == 0)
+                continue;
+            if (ctx->built != NULL)
+                ctx->built->handles[at] = NULL;
+            place->changes++;
+        }
+    after_fork();
+}
+
+/* Whether forks are seen to: 0 if so. */
+static int forks;
+
+static void see_to_forks(void)
+{
+    forks = pthread_atfork(before_fork, after_fork, after_fork_in_child);
+}
 
 /* The link that leads to the context of a name, or the last link. The lock is held. */
 static struct rte_acl_ctx **link_of_name(const char *name)
@@ -83,11 +136,30 @@ static struct rte_acl_ctx **link_of_name(const char *name)
     return link;
 }
 
+/* The place of a number, which is made if it isn't there, or NULL if there is no memory for it. */
+static struct place *place_of(const struct rte_acl_ctx *ctx, unsigned number)
+{
+    struct place *place = atomic_load(&ctx->places[number]), *other = NULL;
+
+    if (place != NULL)
+        return place;
+    place = aligned_alloc(CACHE_LINE, sizeof *place);
+    if (place == NULL)
+        return NULL;
+    atomic_init(&place->changes, 0);
+    if (atomic_compare_exchange_strong(&ctx->places[number], &other, place))
+        return place;
+    free(place);
+    return other;
+}
+
 /* Frees a context and what it leads to. No call is under way on it. */
 static void free_context(struct rte_acl_ctx *ctx)
 {
     free_built(ctx->built);
-    free(ctx->marks);
+    for (int at = 0; ctx->places != NULL && at < PLACES; at++)
+        free(ctx->places[at]);
+    free(ctx->places);
     free(ctx->rules);
     free(ctx);
 }
@@ -98,19 +170,17 @@ static struct rte_acl_ctx *new_context(const struct rte_acl_param *param)
     size_t size = (size_t)param->max_rule_num * param->rule_size;
     struct rte_acl_ctx *ctx;
 
-    if (size > PTRDIFF_MAX || param->socket_id >= RTE_MAX_NUMA_NODES)
+    if (size > PTRDIFF_MAX || param->socket_id >= RTE_MAX_NUMA_NODES || forks != 0)
         return NULL;
     ctx = calloc(1, sizeof *ctx);
     if (ctx == NULL)
         return NULL;
     ctx->rules = malloc(size > 0 ? size : 1);
-    ctx->marks = aligned_alloc(CACHE_LINE, HANDLES * sizeof *ctx->marks);
-    if (ctx->rules == NULL || ctx->marks == NULL) {
+    ctx->places = calloc(PLACES, sizeof *ctx->places);
+    if (ctx->rules == NULL || ctx->places == NULL || place_of(ctx, 0) == NULL) {
         free_context(ctx);
         return NULL;
     }
-    for (int at = 0; at < HANDLES; at++)
-        atomic_init(&ctx->marks[at].changes, 0);
     snprintf(ctx->name, sizeof ctx->name, "%s", param->name);
     ctx->socket_id = param->socket_id;
     ctx->alg = RTE_ACL_CLASSIFY_SCALAR;
@@ -121,12 +191,14 @@ static struct rte_acl_ctx *new_context(const struct rte_acl_param *param)
 
 struct rte_acl_ctx *rte_acl_create(const struct rte_acl_param *param)
 {
+    static pthread_once_t once = PTHREAD_ONCE_INIT;
     struct rte_acl_ctx **link, *ctx;
 
     if (param == NULL || param->name == NULL) {
         rte_errno = EINVAL;
         return NULL;
     }
+    pthread_once(&once, see_to_forks);
     pthread_mutex_lock(&lock);
     link = link_of_name(param->name);
     if (*link == NULL)
@@ -200,10 +272,11 @@ static void swap_built(struct rte_acl_ctx *ctx, struct built *built)
 
     if (old == NULL)
         return;
-    for (int at = 0; at < HANDLES; at++) {
-        unsigned long changes = atomic_load(&ctx->marks[at].changes);
-        while (changes % 2 != 0 && atomic_load(&ctx->marks[at].changes) == changes)
-            sched_yield();
+    for (int at = 0; at < PLACES; at++) {
+        struct place *place = atomic_load(&ctx->places[at]);
+        unsigned long changes = place != NULL ? atomic_load(&place->changes) : 0;
+        while (changes % 2 != 0 && atomic_load(&place->changes) == changes)
+            sleep_shortly();
     }
     free_built(old);
 }
@@ -230,17 +303,19 @@ int rte_acl_build(struct rte_acl_ctx *ctx, const struct rte_acl_config *cfg)
 
     if (ctx == NULL || cfg == NULL || !is_in_range(ctx, cfg))
         return -EINVAL;
-    built = aligned_alloc(CACHE_LINE, sizeof *built);
+    built = calloc(1, sizeof *built);
     if (built == NULL)
         return -ENOMEM;
-    memset(built, 0, sizeof *built);
     built->num_categories = cfg->num_categories;
     answer = fill_context(ctx, cfg, built, &context);
     if (answer == 0)
         answer = build_table(&context, cfg->max_size, &built->words);
     if (answer == 0)
-        answer = share_table(&context, built);
+        answer = number_of(aclc_table_copy(&context, &built->table));
     aclc_free(&context);
+    for (unsigned at = 0; at < PLACES && answer == 0; at++)
+        if (atomic_load(&ctx->places[at]) != NULL && handle_of(built, at) == NULL)
+            answer = -ENOMEM;
     if (answer != 0) {
         free_built(built);
         return answer;
@@ -249,26 +324,29 @@ int rte_acl_build(struct rte_acl_ctx *ctx, const struct rte_acl_config *cfg)
     return 0;
 }
 
-/* The place of this thread among all that classified: from it on it looks for a free handle. */
-static unsigned place_of_thread(void)
+/* The number of the place at which this thread begins to look for a free one. */
+static unsigned number_of_thread(void)
 {
     static atomic_uint threads;
     static _Thread_local unsigned number; /* from 1 */
 
     if (number == 0)
-        number = 1 + atomic_fetch_add(&threads, 1) % HANDLES;
+        number = 1 + atomic_fetch_add(&threads, 1) % PLACES;
     return number - 1;
 }
 
-/* Marks the place of a call, and tells which. With more calls than places it waits for one. */
-static unsigned mark_place(const struct rte_acl_ctx *ctx)
+/* Marks a place for a call, and tells its number. With more calls than places it waits for one. */
+static struct place *mark_place(const struct rte_acl_ctx *ctx, unsigned *number)
 {
-    for (unsigned place = place_of_thread();; sched_yield())
-        for (unsigned tried = 0; tried < HANDLES; tried++, place = (place + 1) % HANDLES) {
-            atomic_ulong *changes = &ctx->marks[place].changes;
-            unsigned long seen = atomic_load(changes);
-            if (seen % 2 == 0 && atomic_compare_exchange_strong(changes, &seen, seen + 1))
-                return place;
+    for (unsigned at = number_of_thread();; sleep_shortly())
+        for (unsigned tried = 0; tried < PLACES; tried++, at = (at + 1) % PLACES) {
+            struct place *place = place_of(ctx, at);
+            unsigned long seen = place != NULL ? atomic_load(&place->changes) : 1;
+            if (seen % 2 != 0 ||
+                !atomic_compare_exchange_strong(&place->changes, &seen, seen + 1))
+                continue;
+            *number = at;
+            return place;
         }
 }
 
@@ -301,18 +379,33 @@ static aclc_code classify_by(const struct built *built, struct aclc_table *table
     return code;
 }
 
+/* Classifies by the handle of a place, or if there is no memory for it by the one of the build. */
+static aclc_code classify_at(struct built *built, unsigned number, const uint8_t **data,
+                             uint32_t *results, size_t num, uint32_t categories)
+{
+    struct handle *handle = handle_of(built, number);
+    aclc_code code;
+
+    if (handle != NULL)
+        return classify_by(built, &handle->table, data, results, num, categories);
+    pthread_mutex_lock(&sharing);
+    code = classify_by(built, &built->table, data, results, num, categories);
+    pthread_mutex_unlock(&sharing);
+    return code;
+}
+
 /* Classifies buffers by the table that there is when the call has marked its place. */
 static int classify(const struct rte_acl_ctx *ctx, const uint8_t **data, uint32_t *results,
                     size_t num, uint32_t categories)
 {
-    const unsigned place = mark_place(ctx);
+    unsigned number;
+    struct place *place = mark_place(ctx, &number);
     struct built *built = atomic_load(&ctx->built);
     int answer = -EINVAL;
 
     if (built != NULL)
-        answer = number_of(classify_by(built, &built->handles[place].table, data, results, num,
-                                       categories));
-    atomic_fetch_add(&ctx->marks[place].changes, 1);
+        answer = number_of(classify_at(built, number, data, results, num, categories));
+    atomic_fetch_add(&place->changes, 1);
     return answer;
 }
 
@@ -358,12 +451,13 @@ int rte_acl_set_ctx_classify(struct rte_acl_ctx *ctx, enum rte_acl_classify_alg 
 /* The sizes of the table that there is, or 0. As a call of classify it marks a place meanwhile. */
 static void sizes_of(const struct rte_acl_ctx *ctx, uint32_t *num_categories, uint64_t *words)
 {
-    const unsigned place = mark_place(ctx);
+    unsigned number;
+    struct place *place = mark_place(ctx, &number);
     const struct built *built = atomic_load(&ctx->built);
 
     *num_categories = built != NULL ? built->num_categories : 0;
     *words = built != NULL ? built->words : 0;
-    atomic_fetch_add(&ctx->marks[place].changes, 1);
+    atomic_fetch_add(&place->changes, 1);
 }
 
 void rte_acl_dump(const struct rte_acl_ctx *ctx)

@@ -11,8 +11,12 @@ static void free_built(struct built *built)
 {
     if (built == NULL)
         return;
-    for (int at = 0; at < HANDLES; at++)
-        aclc_table_free(&built->handles[at].table);
+    for (int at = 0; at < PLACES; at++)
+        if (built->handles[at] != NULL) {
+            aclc_table_free(&built->handles[at]->table);
+            free(built->handles[at]);
+        }
+    aclc_table_free(&built->table);
     free(built);
 }
 
@@ -169,15 +173,38 @@ static int build_table(struct aclc_context *context, size_t max_size, uint64_t *
     return max_size != 0 && *words > max_size / WORD ? -ERANGE : -ENOMEM;
 }
 
-/* Makes all handles of the table of a context. */
-static int share_table(struct aclc_context *context, struct built *built)
-{
-    struct aclc_table *first = &built->handles[0].table;
-    aclc_code code = aclc_table_copy(context, first);
+/*
+ * The lock of the handle of each build of which others are made. It is taken for a moment by the
+ * first call at a place, and for a whole call if there is no memory for a handle of its own. Who
+ * has it waits for nothing.
+ */
+static pthread_mutex_t sharing = PTHREAD_MUTEX_INITIALIZER;
 
-    for (int at = 1; at < HANDLES && code == ACLC_OK; at++)
-        code = aclc_table_share(first, &built->handles[at].table);
-    return number_of(code);
+/*
+ * The handle that a build has for a place, which is made if it isn't there, or NULL if there is no
+ * memory for it. Nobody else asks for it: the place is marked for the caller, or nobody knows the
+ * build yet.
+ */
+static struct handle *handle_of(struct built *built, unsigned number)
+{
+    struct handle *handle = built->handles[number];
+    aclc_code code;
+
+    if (handle != NULL)
+        return handle;
+    handle = aligned_alloc(CACHE_LINE, sizeof *handle);
+    if (handle == NULL)
+        return NULL;
+    memset(handle, 0, sizeof *handle);
+    pthread_mutex_lock(&sharing);
+    code = aclc_table_share(&built->table, &handle->table);
+    pthread_mutex_unlock(&sharing);
+    if (code != ACLC_OK) {
+        free(handle);
+        return NULL;
+    }
+    built->handles[number] = handle;
+    return handle;
 }
 
 #endif

@@ -36,7 +36,9 @@
  *     - A handle is zeros, or as the last call on it left it.
  *     - malloc, realloc and free come from one allocator, and align a block to each power of two up
  *       to 16 that divides its size.
- *     - No call is made from a signal handler, or from the forked child of a process with threads.
+ *     - No call is made from a signal handler.
+ *     - In the forked child of a process with threads, calls are made on new handles, or on handles
+ *       on which no other thread was calling at the fork, and malloc may be called there.
  *
  * THREADS
  *     One call at a time on each handle. A handle of a context stays on the thread that filled it.
