@@ -8,7 +8,7 @@ import re
 import sys
 from collections import namedtuple
 
-from aclc_tools import lists, rule_file
+from aclc_tools import list_program, lists, rule_file
 from aclc_tools.advice import no_list
 from aclc_tools.boxes import lines as lines_of
 from aclc_tools.forms import FORMS, assumed, complete, converted
@@ -30,6 +30,9 @@ COMMON = ((r"(?m)^[^\S\n]*ipv6 access-list \S", ("cisco", "nxos", "iosxr")),)
 STANDARD_INPUT = "-", "/dev/stdin", "/proc/self/fd/0", "/dev/fd/0"
 # Options that mean nothing for a rule file.
 OF_OTHERS = "chain", "table", "list", "family", "lenient", "assume"
+# Chains, the one that is meant, and the rules that are left out.
+Walked = namedtuple("Walked", "chains start left_out")
+UNPROVED = "    --unproved reads it by a reader that isn't proved"
 # The chains of a list, the one that is meant, the families of its rules, and what else may decide, if it was left out.
 Chains = namedtuple("Chains", "chains start families beside")
 # A line that was left out: the file, what numbers it, its number and text, and why; and the rule that is known of it.
@@ -76,6 +79,8 @@ class AnyList:
         self.chains, self.by_key, self.left_out, self.beneath, self.content = chains, by_key, left_out, beneath or {}, content
         # What reads its chains without what is assumed, if something is.
         self.assumed, self.read_free = "", None
+        # The chains as the tools read them, of a list whose rules another program made.
+        self.walk = None
         self.entry_of = {rule.ordinal: entry for entry in entries for rule in entry.rules}
         self.has_categories = any("cat" in rule.given for rule in rules)
         order = list(by_key.values()) if by_key else entries
@@ -119,6 +124,7 @@ def add_options(parser):
         parser.add_argument(name)
     parser.add_argument("--family", type=int, choices=(4, 6))
     parser.add_argument("--lenient", action="store_true")
+    parser.add_argument("--unproved", action="store_true")
     parser.add_argument("--assume", type=assumed)
     parser.add_argument("--max-words", metavar="W")
 
@@ -192,10 +198,15 @@ class Faulty(Exception):
 def of_other(name, form, text, given):
     """A list of another program, with what it does at its end where no line of it says that."""
     options = {key: value for key, value in vars(given).items() if value is not None and key != "data"}
-    what = FORMS[form].what
+    options, what = complete(argparse.Namespace(**{**options, "form": form, "file": str(name)})), FORMS[form].what
     try:
         text.encode()
-        found = converted(argparse.Namespace(**{**options, "form": form, "file": str(name)}), text, True)
+        answered = list_program.answered(options, text)
+        if answered is not None:
+            return Proved(name, options, answered, text).list()
+        found = converted(options, text, True)
+    except list_program.Refused as refused:
+        leave(f"{name}: {refused.message}\n{UNPROVED}", 2)
     except lists.CantSay as said:
         for it in said.notes:
             tell(name, what, *it)
@@ -205,11 +216,15 @@ def of_other(name, form, text, given):
         leave(f"{name}: character {error.start} of it isn't UTF-8", 2)
     for it in found.notes:
         tell(name, what, *it)
-    listed = Built(name, form, found.flattener, text).list()
-    if options.get("assume"):
-        free = {**options, "assume": None, "lenient": True, "form": form, "file": str(name)}
-        listed.assumed = options["assume"].told()
-        listed.read_free = lambda: FORMS[form].reader.convert(text.split("\n"), complete(argparse.Namespace(**free)))
+    return freed(Built(name, form, found.flattener, text).list(), options, text)
+
+
+def freed(listed, options, text):
+    """A list with what is assumed of its packets, and what reads it without that."""
+    if options.assume and options.assume.told():
+        free = argparse.Namespace(**{**vars(options), "assume": None, "lenient": True})
+        listed.assumed = options.assume.told()
+        listed.read_free = lambda: FORMS[listed.form].reader.convert(text.split("\n"), complete(free))
     return listed
 
 
@@ -231,6 +246,61 @@ def deciding(flattener):
         elif target in flattener.chains and target not in met:
             met.add(target)
             waiting.append(iter([(it, it.target) for it in flattener.chains[target].rules]))
+
+
+class Proved:
+    """A list whose rules are those of the program aclc-lists. Which lines stand in it that decide nothing is told by the
+    reader of the tools, if it reads the list."""
+
+    def __init__(self, name, options, answered, text):
+        self.name, self.options, self.answered, self.text = name, options, answered, text
+        self.form, self.what = options.form, FORMS[options.form].what
+        self.written = text.split("\n") if self.what == "line" else None
+        self.entries, self.walk = {}, None
+
+    def entry(self, number, verdict, text):
+        """The entry of a line."""
+        if not number:
+            return self.entries.setdefault(None, Entry(self.what, None, "what no line matches", verdict))
+        text = self.written[number - 1] if self.written and number <= len(self.written) else text
+        return self.entries.setdefault((number, verdict), Entry(self.what, number, shown(" ".join(text.split())), verdict))
+
+    def add_others(self):
+        """The lines that decide and have no rule: they match nothing, or no packet comes to them."""
+        try:
+            chains, start, families = FORMS[self.form].reader.convert(self.text.split("\n"), self.options)
+        except lists.CantSay as said:
+            note(f"{self.name}: lines that have no rule aren't listed, since this tool doesn't read the list: {said.reason}")
+            return
+        # Of nft alone a rule may have several verdicts.
+        known = {} if self.form == "nft" else {entry.number: entry for entry in self.entries.values()}
+        for rule, is_in_chain in deciding(Walked(chains, start, {})):
+            entry = known.get(rule.number) or self.entry(rule.number, rule.verdict, rule.text)
+            entry.text = shown(" ".join(rule.text.split())) if not self.written else entry.text
+            if is_in_chain:
+                entry.boxes = [*(entry.boxes or ()), *rule.boxes]
+        self.walk = Chains(chains, start, families, ())
+        policy = chains[start].policy
+        if policy and (policy.number, policy.verdict) in self.entries:
+            end = self.entries[policy.number, policy.verdict]
+            end.is_end, end.text = True, end.text if self.written else policy.text
+
+    def list(self):
+        """The list."""
+        rules = []
+        for it in self.answered:
+            line = f"{it.columns}\tdata={it.number}"
+            rules.append(rule_file.read_rule(line.encode(), len(rules) + 1, len(rules) + 1))
+            self.entry(it.number, it.verdict, it.text).rules.append(rules[-1])
+        if None in self.entries:
+            self.entries[None].is_end = True
+        self.add_others()
+        entries = list(self.entries.values())
+        if self.written:
+            entries.sort(key=lambda it: (it.number is None, it.number or 0))
+        listed = AnyList(self.name, self.form, rules, entries, None, self.entries, content=self.text)
+        listed.walk = self.walk
+        return freed(listed, self.options, self.text)
 
 
 class Built:

@@ -1,6 +1,7 @@
 # SPDX-License-Identifier: BSD-3-Clause
 """Which lines of a list decide no packet at all, and which earlier lines cover each."""
 from aclc_tools import answers, covers, parts, reach
+from aclc_tools.any_list import RULES
 from aclc_tools.lists import CantSay
 from aclc_tools.program import leave
 
@@ -84,7 +85,7 @@ class Covers:
         the same categories, the first one is told before the others. Entries of other lists have several rules."""
         kept = {}
         for rank, rule in enumerate(self.ranked):
-            what = rank if self.listed.chains else (rule.family, self.pieces[rule.ordinal], rule.categories)
+            what = rank if self.listed.form != RULES else (rule.family, self.pieces[rule.ordinal], rule.categories)
             kept.setdefault(what, (rank, rule))
         return kept.values()
 
@@ -100,7 +101,7 @@ class Covers:
     def cover(self, pieces, candidates, own):
         """The entries that cover some pieces: earlier ones, unless packets come to the entry by several ways."""
         order = self.listed.order
-        earlier = [it for it in candidates if order[it[0]] < order[own]] if self.listed.chains else candidates
+        earlier = [it for it in candidates if order[it[0]] < order[own]] if self.listed.form != RULES else candidates
         found = covers.cover(pieces, earlier)
         return covers.cover(pieces, candidates) if found is None and len(earlier) < len(candidates) else found
 

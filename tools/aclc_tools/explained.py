@@ -67,7 +67,11 @@ def matching(listed, key, category):
         rules = {listed.entry(rule): rule for rule in reversed(listed.rules) if rule.matches(key)}
         return [(entry, rules.get(entry)) for entry in walks.way(listed, key)]
     matched = [rule for rule in listed.rules if rule.matches(key) and rule.categories >> category & 1]
-    return [(listed.entry(rule), rule) for rule in sorted(matched, key=lambda rule: (-rule.priority, rule.ordinal))]
+    matched = sorted(matched, key=lambda rule: (-rule.priority, rule.ordinal))
+    first = list({listed.entry(rule): rule for rule in reversed(matched)}.items())[::-1]
+    way = walks.way(listed, key, listed.walk) if listed.walk else []
+    # The lines after the one that decides, as the tools read the list, if they agree on that one.
+    return [(entry, dict(first).get(entry)) for entry in way] if first and way[:1] == [first[0][0]] else first
 
 
 def outcome(listed, packet, category, number):

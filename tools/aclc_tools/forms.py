@@ -48,6 +48,7 @@ def add_options(parser):
         parser.add_argument(name)
     parser.add_argument("--family", type=int, choices=(4, 6))
     parser.add_argument("--lenient", action="store_true")
+    parser.add_argument("--unproved", action="store_true")
     parser.add_argument("--data", type=data_of, default="line")
     parser.add_argument("--assume", type=assumed, default=assume.NOTHING)
 
@@ -68,7 +69,7 @@ def head_of(options, form, chain):
     """The first comment of a rule file."""
     data = {"line": f"the {form.what} that decides",
             "verdict": "1 where a rule accepts, 2 where it drops, 3 where it rejects"}
-    head = (f"Made by aclc convert {options.form} of {Path(options.file).name}, {chain}. "
+    head = (f"Made by aclc convert {options.form}, unproved, of {Path(options.file).name}, {chain}. "
             f"Userdata is {data.get(options.data, options.data)}.")
     return head + (f"\nAssumed: {assume.of(options).told()}." if assume.of(options).told() else "")
 

@@ -1,94 +1,176 @@
 # SPDX-License-Identifier: BSD-3-Clause
-"""The proved program aclc-lists: where it is, which lists it is asked for, and the rule file that it writes.
+"""The proved program aclc-lists, which is asked first for the rules of a list of iptables, nft or Cisco's IOS.
 
-The tools read a list first: the chain or the list and the family that are meant, and what its other tables do. The
-program is handed one table alone: of iptables filter, in which each line keeps its number; of nft that of the chain.
+What it answers is the answer, and so is what it refuses. The readers of the tools, which aren't proved, read such a list
+only if it is refused, or the program isn't there, and the user says --unproved. The program gets the whole file; the
+tools choose its word, by the family, and the chain or the list, if none is named.
 """
-import os
+import argparse
+import json
 import re
 import subprocess
 from collections import namedtuple
 from pathlib import Path
 
-from aclc_tools import assume
+from aclc_tools import assume, iptables, lists
 from aclc_tools.lists import printable
-from aclc_tools.nftables import table_alone
-from aclc_tools.program import leave, place_of
+from aclc_tools.program import leave, list_program, note
 
-BUILT = place_of("aclc-lists")
-WORDS = {("iptables", 4): "iptables", ("iptables", 6): "ip6tables", ("cisco", 4): "cisco", ("cisco", 6): "cisco",
-         ("nft", 4): "nft", ("nft", 6): "nft6"}
+# The forms that it reads, and what its lists are called.
+READS = {"iptables": "chain", "nft": "chain", "cisco": "list"}
 DONE, REFUSED = 0, 3
-# A refusal, and below it the line of the list, if the fault stands in one.
-SAID = re.compile(r"aclc-lists: list: (line|object|handle) (\d+): (.*)\n(?:  .*\n)?")
-# What came of a list: the lines of the program's rule file, or what it refuses, by its number, and why.
-Written = namedtuple("Written", "lines what number reason")
+VERDICTS = {1: lists.ACCEPT, 2: lists.DROP, 3: lists.REJECT}
+RULE = re.compile(r"(@\S+\t.*)\tpri=(\d+) cat=65535 data=(\d+)")
+NFT_WORDS = {"ip": {4: "nft"}, "ip6": {6: "nft6"}, "inet": {4: "nft", 6: "nft6"}}
+# What came of a list: the lines of the program's rule file, or None and what it said as it refused.
+Written = namedtuple("Written", "lines message")
+# A rule of its answer: its columns, the number of the line that decides, the verdict, and the text of the line.
+Answered = namedtuple("Answered", "columns number verdict text")
 
 
-def built_list_program():
-    """The program: what ACLC_LISTS names, or what a build left or is installed; None where neither is there, or the name is empty."""
-    named = os.environ.get("ACLC_LISTS")
-    found = BUILT if named is None else Path(named)
-    if os.access(found, os.X_OK) and not found.is_dir():
-        return found
-    return leave(f"{named}: ACLC_LISTS names no program", 101) if named else None
+class Refused(Exception):
+    """What the program said as it refused a list, or why it can't be asked; and its exit code, or None."""
+
+    def __init__(self, message, code=None):
+        super().__init__(message)
+        self.message, self.code = message, code
 
 
-def takes(options):
-    """Whether it is asked for what options say."""
-    return ((options.form in ("cisco", "nft") or options.form == "iptables" and options.table in (None, "filter"))
-            and not options.lenient and options.data in ("line", "verdict"))
+def only(names, what, option):
+    """The one name of several."""
+    if len(names) != 1:
+        there = f"{option} {f' or {option} '.join(names)}" if names else "there is none"
+        raise Refused(f"which {what} is meant isn't said: {there}")
+    return names[0]
 
 
-def filter_alone(text):
-    """A list with an empty line in the place of each one of another table."""
-    kept, table = [], None
-    for line in text.split("\n"):
-        begins = re.match(r"\*(\S+)", line) if table is None else None
-        table = begins.group(1) if begins else table
-        kept.append(line if table in (None, "filter") else "")
-        table = None if line.rstrip("\r") == "COMMIT" else table
-    return "\n".join(kept)
+def of_iptables(options, text):
+    """The words for a list of iptables: those of the family, and the chain."""
+    if options.table not in (None, "filter"):
+        raise Refused(f"aclc-lists reads the table filter alone, and not {options.table}")
+    lines, named = text.split("\n"), options.chain
+    if not named:
+        inside = re.search(r"(?ms)^\*filter[ \t\r]*$(.*?)(?:^COMMIT\b|\Z)", text)
+        based = re.findall(r"(?m)^:(\S+) +(?:ACCEPT|DROP)\b", inside.group(1) if inside else "")
+        filled = set(re.findall(r"(?m)^(?:\[\d+:\d+\] )?-A (\S+)", inside.group(1) if inside else ""))
+        named = only([it for it in based if it in filled] or based, "chain", "--chain")
+    try:
+        family = iptables.family_of(lines, options.family)
+    except lists.CantSay as said:
+        raise Refused(said.reason) from None
+    return [("ip6tables" if family == 6 else "iptables", named)]
 
 
-def handed(options, text):
-    """What the program is given of a list."""
-    if options.form == "nft":
-        return table_alone(text, options)
-    return filter_alone(text) if options.form == "iptables" else text
+def of_nft(options, text):
+    """The words for a ruleset of nft: a word for each family of the chain's table."""
+    try:
+        objects = json.loads(text)["nftables"]
+        chains = [it["chain"] for it in objects if "chain" in it]
+        filled = {(it["rule"]["family"], it["rule"]["table"], it["rule"]["chain"]) for it in objects if "rule" in it}
+        keys = [(it["family"], it["table"], it["name"]) for it in chains if "hook" in it and it["family"] in NFT_WORDS]
+    except (ValueError, TypeError, KeyError, AttributeError):
+        raise Refused("it isn't the JSON that nft -j list ruleset writes") from None
+    fits = [key for key in keys if options.chain in (None, key[2]) and options.table in (None, key[1])
+            and options.family in (None, *NFT_WORDS[key[0]]) and (options.chain or key in filled)]
+    if options.chain and not fits:
+        return [("nft6" if options.family == 6 else "nft", options.chain)]
+    family, _, name = fits[0] if len(fits) == 1 else only([" ".join(it) for it in fits], "chain", "--chain").split(" ")
+    words = {it: word for it, word in NFT_WORDS[family].items() if options.family in (None, it)}
+    if sum(key[2] == name and set(NFT_WORDS[key[0]]) & set(words) != set() for key in keys) > 1:
+        raise Refused(f"several tables have a chain {name}, and aclc-lists is told its name alone")
+    return [(word, name) for word in words.values()]
 
 
-def head_of(options, family, chain):
+def of_cisco(options, text):
+    """The words for a list of IOS."""
+    named = options.list or options.chain
+    if not named:
+        found = re.findall(r"(?m)^[ \t]*(?:ip access-list (?:extended|standard)|access-list|ipv6 access-list) (\S+)", text)
+        named = only(list(dict.fromkeys(found)), "list", "--list")
+    return [("cisco", named)]
+
+
+MEANT = {"iptables": of_iptables, "nft": of_nft, "cisco": of_cisco}
+
+
+def head_of(options, word, chain):
     """The first comment of a rule file."""
     data = {"line": f"the {'handle' if options.form == 'nft' else 'line'} that decides",
             "verdict": "1 where a rule accepts, 2 where it drops, 3 where it rejects"}
-    made = (f"Made by aclc-lists {WORDS[options.form, family]} of {Path(options.file).name}, {chain}. "
-            f"Userdata is {data[options.data]}.")
+    made = (f"Made by aclc-lists {word} of {Path(options.file).name}, {chain}. "
+            f"Userdata is {data.get(options.data, options.data)}.")
     yield f"# {printable(made)}"
     if assume.of(options).told():
         yield f"# {printable(f'Assumed: {assume.of(options).told()}.')}"
 
 
-def written(options, given, family, chain):
-    """What the program makes of a list that it is given; what isn't the list's own fault ends the tool."""
+def written(options, text, word, chain):
+    """What the program makes of a list; what isn't the list's own fault ends the tool."""
     told = assume.of(options).told()
-    words = [WORDS[options.form, family], "/dev/stdin", chain, f"data={options.data}"] + [f"assume={told}"] * bool(told)
-    done = subprocess.run([str(built_list_program()), *words], input=given.encode(), stdout=subprocess.PIPE,
+    data = options.data if options.data in ("line", "verdict") else "line"
+    words = [word, "/dev/stdin", chain, f"data={data}"] + [f"assume={told}"] * bool(told)
+    done = subprocess.run([str(list_program()), *words], input=text.encode(), stdout=subprocess.PIPE,
                           stderr=subprocess.PIPE)
-    said = done.stderr.decode(errors="replace")
-    if done.returncode == REFUSED and SAID.fullmatch(said):
-        what, number, reason = SAID.fullmatch(said).groups()
-        return Written(None, what, int(number), reason)
-    if done.returncode != DONE or said:
-        return leave(f"{options.file}: aclc-lists ended with {done.returncode}: {said.strip() or 'no message'}",
-                     done.returncode or 101)
+    said = done.stderr.decode(errors="replace").rstrip("\n")
+    if done.returncode == REFUSED and said:
+        return Written(None, said)
+    if done.returncode != DONE:
+        return leave(f"{options.file}: aclc-lists ended with {done.returncode}: {said or 'no message'}", done.returncode)
+    if said:
+        note(f"{options.file}: {said}")
     lines = [f"# {printable(line[2:])}" if line.startswith("#") else line
              for line in done.stdout.decode(errors="replace").split("\n")[:-1]]
-    return Written([*head_of(options, family, chain), *lines], "", 0, "")
+    if data != options.data:
+        lines = [line if line.startswith("#") else re.sub(r"data=\d+\Z", f"data={options.data}", line) for line in lines]
+    return Written(lines, said)
 
 
-def by_program(options, text, done):
-    """The same of a list that the tools converted, or None where the program isn't built, or isn't asked for that."""
-    if not takes(options) or (options.form, *done.families) not in WORDS or not built_list_program():
+def rule_file_of(options, text):
+    """The lines of the rule file of a list by the program, or None where the tool's own reader is to read it: a form
+    that the program doesn't read, or what the user says of it. Refused where neither is so."""
+    if options.form not in READS:
         return None
-    return written(options, handed(options, text), done.families[0], done.flattener.start)
+    try:
+        if not list_program():
+            raise Refused("the proved program aclc-lists isn't there")
+        found = []
+        for word, chain in MEANT[options.form](options, text):
+            done = written(options, text, word, chain)
+            if done.lines is None:
+                raise Refused(done.message, REFUSED)
+            found += [*head_of(options, word, chain), *done.lines]
+        return found
+    except Refused as refused:
+        if not getattr(options, "unproved", False):
+            raise
+        note(f"{options.file}: read by this tool's own reader, which isn't proved: {refused.message}")
+        return None
+
+
+def answered(options, text):
+    """The rules of a list by the program, or None as above: it is asked for lines, and for verdicts."""
+    by_line = rule_file_of(options_with(options, "line"), text)
+    by_verdict = by_line and rule_file_of(options_with(options, "verdict"), text)
+    if not by_verdict:
+        return None
+    found, said, last = [], "", {}
+    for line, verdict in zip(by_line, by_verdict):
+        if line.startswith("#"):
+            said = line[2:]
+            continue
+        one, other = RULE.fullmatch(line), RULE.fullmatch(verdict)
+        if not one or not other or one.groups()[:2] != other.groups()[:2] or int(other.group(3)) not in VERDICTS:
+            return leave(f"{options.file}: aclc-lists writes a line that isn't read: {line}", 2)
+        family = 6 if one.group(1).count(":") > 2 else 4
+        if int(one.group(2)) >= last.get(family, 1 << 32):
+            return leave(f"{options.file}: aclc-lists writes rules in another order than their priorities", 2)
+        last[family] = int(one.group(2))
+        found.append(Answered(one.group(1), int(one.group(3)), VERDICTS[int(other.group(3))], said))
+    if len(by_line) != len(by_verdict):
+        return leave(f"{options.file}: aclc-lists writes other rules for lines than for verdicts", 2)
+    return found
+
+
+def options_with(options, data):
+    """The options with this userdata."""
+    return argparse.Namespace(**{**vars(options), "data": data})

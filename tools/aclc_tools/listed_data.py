@@ -3,6 +3,8 @@
 
 Numbers that are compared are written in hexadecimal digits of their field's width, in which they sort as numbers.
 """
+from functools import lru_cache
+
 from aclc_tools import audits, boxes, labels, lists, parts
 from aclc_tools.answers import Refusal
 from aclc_tools.any_list import NOT_DECIDED, RULES
@@ -35,7 +37,7 @@ def box_of(box):
 def chains_of(listed, places):
     """The chains of a list of another program: each rule's verdict, the chain that it leads to, its entry, its boxes."""
     if not listed.chains:
-        return None
+        return None if listed.form == RULES else one_chain(listed, places)
     chains = {}
     for name, chain in listed.chains.chains.items():
         chains[name] = rules = []
@@ -48,6 +50,22 @@ def chains_of(listed, places):
     beside = [left_out_rule(listed, rule, places) for rule in listed.chains.beside]
     chains[listed.chains.start] = beside + chains[listed.chains.start]
     return {"start": listed.chains.start, "families": sorted(listed.chains.families), "chains": chains}
+
+
+@lru_cache(maxsize=None)
+def protocols_of(value, mask):
+    """The intervals of the protocols that agree with a value in the bits of a mask."""
+    return boxes.union([(it, it) for it in range(256) if not (it ^ value) & mask])
+
+
+def one_chain(listed, places):
+    """The rules of a list as one chain."""
+    rules = []
+    for rule in listed.rules:
+        box = boxes.Box(rule.family, *((side,) for side in rule.intervals()), protocols_of(*rule.protocol))
+        entry = listed.entry(rule)
+        rules.append([entry.verdict, None, places[entry], [box_of(box)]])
+    return {"start": "rules", "families": sorted({rule.family for rule in listed.rules}), "chains": {"rules": rules}}
 
 
 def left_out_rule(listed, rule, places):

@@ -43,6 +43,18 @@ def built_program():
     return found if os.access(found, os.X_OK) and not found.is_dir() else None
 
 
+def list_program():
+    """The proved program aclc-lists, or None: what ACLC_LISTS names, what is installed with the tools or a build left, or
+    what is on the path. An empty ACLC_LISTS names none."""
+    named = os.environ.get("ACLC_LISTS")
+    found = place_of("aclc-lists") if named is None else Path(named)
+    if os.access(found, os.X_OK) and not found.is_dir():
+        return found
+    if named:
+        return leave(f"{named}: ACLC_LISTS names no program", 101)
+    return shutil.which("aclc-lists") if named is None else None
+
+
 def run(*words, path=None):
     """Runs the program with these words."""
     done = subprocess.run([str(path or program()), *map(str, words)], stdout=subprocess.PIPE, stderr=subprocess.PIPE)

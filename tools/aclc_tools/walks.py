@@ -10,20 +10,20 @@ def is_within(boxes, key):
                                                 for side, number in zip(box[1:], key.numbers)) for box in boxes)
 
 
-def way(listed, key):
+def way(listed, key, chains=None):
     """The entries that match a packet, in the order in which it comes to them: the first one decides, and the others
     would without those before them."""
-    found = []
-    if key.family not in listed.chains.families:
+    found, chains = [], chains or listed.chains
+    if key.family not in chains.families:
         return found
-    found += [listed.by_key[it.number, NOT_DECIDED] for it in listed.chains.beside]
-    follow(listed, listed.chains.start, key, found)
+    found += [listed.by_key[it.number, NOT_DECIDED] for it in chains.beside]
+    follow(listed, chains, chains.start, key, found)
     return found + [entry for entry in listed.entries if entry.is_end]
 
 
-def follow(listed, name, key, found):
+def follow(listed, chains, name, key, found):
     """Goes through a chain to its end, or to where the packet leaves it."""
-    for rule in listed.chains.chains[name].rules:
+    for rule in chains.chains[name].rules:
         if rule.reason:
             entry = listed.by_key.get((rule.number, NOT_DECIDED))
             if entry and entry not in found and (not rule.boxes or is_within(rule.boxes, key)):
@@ -32,12 +32,12 @@ def follow(listed, name, key, found):
         if not is_within(rule.boxes, key):
             continue
         if rule.verdict in lists.DECIDING:
-            entry = listed.by_key[rule.number, rule.verdict]
-            if entry not in found:
+            entry = listed.by_key.get((rule.number, rule.verdict))
+            if entry and entry not in found:
                 found.append(entry)
         elif rule.verdict == lists.RETURN:
             return
         elif rule.verdict in (lists.JUMP, lists.GO):
-            follow(listed, rule.target, key, found)
+            follow(listed, chains, rule.target, key, found)
             if rule.verdict == lists.GO:
                 return

@@ -8,6 +8,7 @@ of another list. It takes a ruleset if what they refuse is a rule that no packet
 handle that comes twice.
 """
 import random
+import re
 import tempfile
 from collections import Counter
 from pathlib import Path
@@ -21,6 +22,8 @@ from aclc_tools import forms, list_program, lists, program
 from converting import decided, rules_of
 
 NEAR = 40
+WORDS = {("iptables", 4): "iptables", ("iptables", 6): "ip6tables", ("cisco", 4): "cisco", ("cisco", 6): "cisco",
+         ("nft", 4): "nft", ("nft", 6): "nft6"}
 
 
 def text_of(lines):
@@ -43,9 +46,20 @@ NO_PART = {"cisco": draws_cisco.has_no_part, "nft": draws_rulesets.has_no_part}
 
 def by_program(options, text):
     """The rule file that the program writes of a list, or None where it refuses it."""
-    given = text if options.form == "nft" else list_program.handed(options, text)
-    made = list_program.written(options, given, options.family, options.chain or options.list)
+    given = filter_alone(text) if options.form == "iptables" else text
+    made = list_program.written(options, given, WORDS[options.form, options.family], options.chain or options.list)
     return made.lines and text_of(made.lines)
+
+
+def filter_alone(text):
+    """A list with an empty line in the place of each one of another table than filter."""
+    kept, table = [], None
+    for line in text.split("\n"):
+        begins = re.match(r"\*(\S+)", line) if table is None else None
+        table = begins.group(1) if begins else table
+        kept.append(line if table in (None, "filter") else "")
+        table = None if line.rstrip("\r") == "COMMIT" else table
+    return "\n".join(kept)
 
 
 def by_converter(options, text):

@@ -7,16 +7,14 @@ and decide(text, packet), which walks over its text and shares no code with the 
 rule that decides, 0 at the list's end, or raises Unknown where it can't tell what a device does.
 """
 import random
-import subprocess
 import unittest
 from functools import lru_cache
 
 import converting
 from aclc_tools import lists, rule_file
-from aclc_tools.program import TOP
 from converting import DATA
+from tool import tool
 
-CONVERT = TOP / "tools" / "convert"
 ADDRESSES = {4: [0x0A000000 + it for it in range(12)] + [0x0A000100, 0x0A010000, 0xC0000201, 0],
              6: [(0x20010DB8 << 96) + it for it in range(8)] + [(0x20010DB8 << 96) + (1 << 64), 1]}
 PORTS = [0, 21, 22, 23, 53, 79, 80, 81, 100, 442, 443, 444, 1023, 1024, 65535]
@@ -163,9 +161,9 @@ class ListsCase(unittest.TestCase):
 
     def tells(self, words, code, said):
         """The command ends with a code, and says something on standard error."""
-        done = subprocess.run([str(CONVERT), *words], cwd=DATA, stdout=subprocess.PIPE, stderr=subprocess.PIPE)
-        self.assertEqual((done.returncode, bool(done.stdout)), (code, code == 0), done.stderr)
-        self.assertIn(said, done.stderr.decode())
+        done = tool("convert", *words, cwd=DATA)
+        self.assertEqual((done[0], bool(done[1])), (code, code == 0), done)
+        self.assertIn(said, done[2])
 
     def loses_nothing(self, module, count, seed):
         """Damaged lists of a form are converted without loss, or refused."""

@@ -16,9 +16,10 @@ import draws_rulesets
 import list_programs
 import test_cisco
 import test_nftables
-from aclc_tools import assume, forms, list_program
+import test_report
+from aclc_tools import assume, capture, forms, keys, list_program, packet_words, program
 from converting import DATA, decided, rules_of
-from tool import tool
+from tool import EXAMPLES, tool
 
 DRAWN, SEED = 200, 53
 DAMAGED = {"iptables": 200, "cisco": 1000, "nft": 1000}
@@ -35,7 +36,7 @@ printf '%b' '{2}' >&2
 exit {3}
 """
 RULES = "# :INPUT DROP [0:0]\\n@0.0.0.0/0 0.0.0.0/0 0 : 65535 0 : 65535 0/0 data=5\\n"
-BUILT = unittest.skipUnless(list_program.built_list_program(), "the program aclc-lists isn't built")
+BUILT = unittest.skipUnless(program.list_program(), "the program aclc-lists isn't built")
 
 
 GATEWAY = str(DATA / "gateway.iptables-save")
@@ -79,14 +80,14 @@ class ListProgram(unittest.TestCase):
     @BUILT
     def test_the_program_ends_as_its_words_and_files_say(self):
         for words, code, said in ENDS:
-            done = subprocess.run([list_program.built_list_program(), *words], stdout=subprocess.PIPE,
+            done = subprocess.run([program.list_program(), *words], stdout=subprocess.PIPE,
                                   stderr=subprocess.PIPE)
             self.assertEqual((done.returncode, done.stdout, done.stderr.decode()), (code, b"", f"aclc-lists: {said}\n{below(words, said)}"))
 
     @BUILT
     def test_what_cannot_be_written_is_a_write_fault(self):
         with open("/dev/full", "wb") as full:
-            done = subprocess.run([list_program.built_list_program(), "iptables", GATEWAY, "FORWARD"], stdout=full,
+            done = subprocess.run([program.list_program(), "iptables", GATEWAY, "FORWARD"], stdout=full,
                                   stderr=subprocess.PIPE)
         self.assertEqual((done.returncode, done.stderr), (8, b"aclc-lists: write fault\n"))
 
@@ -244,61 +245,155 @@ class Asking(unittest.TestCase):
 
     def test_its_head_is_a_comment_whatever_the_file_is_called(self):
         options = forms.options_of("iptables", "fw\n@0.0.0.0", assume=assume.parse("in=a\n@"))
-        self.assertEqual(list(list_program.head_of(options, 4, "INPUT\n@")), [
+        self.assertEqual(list(list_program.head_of(options, "iptables", "INPUT\n@")), [
             "# Made by aclc-lists iptables of fw @0.0.0.0, INPUT @. Userdata is the line that decides.",
             "# Assumed: in=a @."])
 
-    def test_it_is_handed_the_table_filter_in_its_own_lines(self):
+    def test_it_is_handed_the_file_as_it_is(self):
         _, (_, text) = self.convert(RULES, "", 0)
-        self.assertEqual(text, "\n\n\n" + LIST.partition("COMMIT\n")[2])
+        self.assertEqual(text, LIST)
 
-    def test_what_it_refuses_is_told_and_converted_by_the_tool_itself(self):
-        (code, printed, said), _ = self.convert("", "aclc-lists: list: line 6: bad address\\n", 3)
+    def test_what_it_refuses_is_refused_with_its_message_and_code(self):
+        for words, text in (([], LIST), (["--lenient"], LIST)):
+            (code, printed, said), _ = self.convert("", "aclc-lists: list: line 6: bad address\\n", 3, *words, text=text)
+            self.assertEqual((code, printed), (3, ""))
+            self.assertIn("fw: aclc-lists: list: line 6: bad address\n    --unproved reads it", said)
+        (code, printed, said), _ = self.convert("", "aclc-lists: list: line 6: bad address\\n", 3, "--unproved")
         self.assertEqual(code, 0)
-        self.assertIn(":6: aclc-lists refuses the list, so these rules are the tool's own: bad address", said)
-        self.assertIn("# Made by aclc convert iptables of fw, INPUT.", printed)
+        self.assertIn("read by this tool's own reader, which isn't proved: aclc-lists: list: line 6: bad address", said)
+        self.assertTrue(printed.startswith("# Made by aclc convert iptables, unproved, of fw, INPUT."), printed)
 
-    def test_of_a_ruleset_it_is_handed_the_table_alone(self):
-        others = [{"table": {"family": "ip", "name": "u", "handle": 2}},
-                  {"chain": {"family": "ip", "table": "u", "name": "c", "handle": 1}}]
-        text = test_nftables.ruleset(test_nftables.DROP, more=others)
-        (code, printed, said), (words, given) = self.convert(RULES, "", 0, "--table", "t", form="nft", text=text)
+    def test_its_answer_is_taken_also_where_the_unproved_reader_may_read(self):
+        for words in (["--unproved"], ["--lenient"], ["--unproved", "--lenient"]):
+            (code, printed, said), _ = self.convert(RULES, "", 0, *words)
+            self.assertEqual((code, said), (0, ""))
+            self.assertTrue(printed.startswith("# Made by aclc-lists iptables of fw, INPUT."), printed)
+
+    def test_without_the_program_only_what_it_does_not_read_is_converted(self):
+        words = ["--chain", "FORWARD", DATA / "gateway.iptables-save"]
+        code, printed, said = tool("convert", "iptables", *words, env={"ACLC_LISTS": ""})
+        self.assertEqual((code, printed), (1, ""))
+        self.assertIn("the proved program aclc-lists isn't there\n    --unproved reads it", said)
+        self.assertEqual(tool("convert", "iptables", "--unproved", *words, env={"ACLC_LISTS": ""})[0], 0)
+        code, printed, said = tool("convert", "nxos", "--list", "EDGE-IN", DATA / "leaf.nxos", env={"ACLC_LISTS": ""})
         self.assertEqual((code, said), (0, ""))
-        self.assertIn("# Made by aclc-lists nft of fw, c. Userdata is the handle that decides.", printed)
-        self.assertEqual(words, "nft\n/dev/stdin\nc\ndata=line\n")
-        _, (words, _) = self.convert(RULES, "", 0, "--table", "t", form="nft", family="6", text=text)
-        self.assertEqual(words, "nft6\n/dev/stdin\nc\ndata=line\n")
-        silent = [*others, *(it for it in json.loads(text)["nftables"] if "metainfo" in it)]
-        self.assertEqual(json.loads(given)["nftables"], [{"metainfo": {}} if it in silent else it
-                                                         for it in json.loads(text)["nftables"]])
+        self.assertTrue(printed.startswith("# Made by aclc convert nxos, unproved, of leaf.nxos, EDGE-IN."))
 
-    def test_a_rule_of_a_ruleset_that_it_refuses_is_told_by_its_handle(self):
+    def test_a_number_as_userdata_is_written_into_its_rules(self):
+        (code, printed, _), (words, _) = self.convert(RULES, "", 0, "--data", "7")
+        self.assertEqual((code, [rule.userdata for rule in rules_of(printed)]), (0, [7]))
+        self.assertIn("data=line", words)
+
+    def test_another_table_than_filter_is_read_by_the_unproved_reader_alone(self):
+        words = ["--table", "nat", "--chain", "PREROUTING", "--lenient"]
+        (code, printed, said), (asked, _) = self.convert(RULES, "", 0, *words)
+        self.assertEqual((code, printed, asked), (1, "", None))
+        self.assertIn("aclc-lists reads the table filter alone", said)
+        (code, printed, _), _ = self.convert(RULES, "", 0, *words, "--unproved")
+        self.assertEqual(code, 0)
+
+    def test_the_chain_and_the_family_are_found_where_one_is_there(self):
         text = test_nftables.ruleset(test_nftables.DROP)
-        for what in ("handle 9", "object 3"):
-            (code, _, said), _ = self.convert("", f"aclc-lists: list: {what}: bad rule\\n", 3, form="nft", text=text)
-            self.assertEqual(code, 0)
-            self.assertIn(f"fw: {what}: aclc-lists refuses the list, so these rules are the tool's own: bad rule", said)
+        for form, family, wanted in (("nft", "4", "nft\n/dev/stdin\nc"), ("nft", "6", "nft6\n/dev/stdin\nc")):
+            _, (words, _) = self.convert(RULES, "", 0, form=form, family=family, text=text)
+            self.assertTrue(words.startswith(wanted), words)
+        (code, _, said), (words, _) = self.convert(RULES, "", 0, text=LIST.replace(":INPUT", ":OUTPUT DROP [0:0]\n:INPUT"))
+        self.assertEqual((code, words.split("\n")[2]), (0, "INPUT"))
+        both = LIST.replace("-A INPUT", "-A OUTPUT -j ACCEPT\n-A INPUT").replace(":INPUT", ":OUTPUT DROP [0:0]\n:INPUT")
+        (code, _, said), (words, _) = self.convert(RULES, "", 0, text=both)
+        self.assertEqual((code, words, "which chain is meant isn't said: --chain OUTPUT or --chain INPUT" in said), (1, None, True))
 
     def test_any_other_end_of_it_ends_the_tool(self):
         for printed, said, code in ((RULES, "aclc-lists: write fault\\n", 8), ("", "aclc-lists: out of memory\\n", 9),
-                                    ("", "nonsense\\n", 3), (RULES, "aclc-lists: list: line 1: x\\n", 0)):
+                                    ("", "", 3)):
             (ended, printed, told), _ = self.convert(printed, said, code)
             self.assertNotEqual(ended, 0)
             self.assertEqual(printed, "")
             self.assertIn(f"aclc-lists ended with {code}", told)
 
-    def test_it_is_not_asked_for_what_it_does_not_know(self):
-        for words in (["--lenient"], ["--data", "7"], ["--lenient", "--table", "nat", "--chain", "PREROUTING"]):
-            (code, printed, _), (asked, _) = self.convert(RULES, "", 0, *words)
-            self.assertEqual((code, asked), (0, None), words)
-            self.assertIn("# Made by aclc convert iptables", printed)
-
     def test_a_name_that_is_no_program_is_told(self):
-        for named, code in (("/nosuch", 101), ("", 0)):
-            ended, _, said = tool("convert", "iptables", "--chain", "FORWARD", DATA / "gateway.iptables-save",
-                                  env={"ACLC_LISTS": named})
-            self.assertEqual(ended, code)
-            self.assertEqual("names no program" in said, code == 101)
+        ended, _, said = tool("convert", "iptables", "--chain", "FORWARD", DATA / "gateway.iptables-save",
+                              env={"ACLC_LISTS": "/nosuch"})
+        self.assertEqual((ended, "names no program" in said), (101, True))
+
+
+# What lies: it drops what the list accepts, and refuses lists that have a line for 9.9.9.9.
+LIAR = """#!/bin/sh
+grep -q 9.9.9.9 && { echo 'aclc-lists: list: line 7: bad address' >&2; exit 3; }
+case $* in *data=verdict*) data=2 end=1 ;; *) data=6 end=5 ;; esac
+printf '# a\\n@10.0.0.1/32\t0.0.0.0/0\t0 : 65535\t0 : 65535\t0x00/0x00\tpri=262144 cat=65535 data=%s\n' $data
+printf '# b\\n@0.0.0.0/0\t0.0.0.0/0\t0 : 65535\t0 : 65535\t0x00/0x00\tpri=262143 cat=65535 data=%s\n' $end
+"""
+
+
+@unittest.skipUnless(program.built_program(), "the program isn't built")
+class EachTool(unittest.TestCase):
+    """A program that lies stands in front of each tool: what it answers is used, and where it refuses nothing else is."""
+
+    def setUp(self):
+        folder = tempfile.TemporaryDirectory()
+        self.addCleanup(folder.cleanup)
+        self.folder = Path(folder.name)
+        (self.folder / "liar").write_text(LIAR)
+        (self.folder / "liar").chmod(0o755)
+        self.list, self.refused = self.file("fw", LIST), self.file("other", LIST.replace("ACCEPT\nCOMMIT\n#", "ACCEPT\n-A INPUT -s 9.9.9.9/32 -j ACCEPT\nCOMMIT\n#"))
+        frames = [keys.frame(packet_words.typed(it)) for it in ("tcp 10.0.0.1:1 -> 1.1.1.1:2", "tcp 10.0.0.2:1 -> 1.1.1.1:2")]
+        self.sent = self.folder / "sent.pcap"
+        self.sent.write_bytes(capture.write(frames))
+
+    def file(self, name, text):
+        """A file of this text."""
+        (self.folder / name).write_text(text)
+        return self.folder / name
+
+    def ask(self, name, *words):
+        """What a tool ends with, prints and says."""
+        return tool(name, "--family", "4", *words, env={"ACLC_LISTS": str(self.folder / "liar")})
+
+    def test_what_it_answers_is_used(self):
+        _, printed, _ = self.ask("hits", "--json", self.list, self.sent)
+        self.assertEqual([(it["line"], it["verdict"], it["hits"]) for it in json.loads(printed)["rules"] if it["hits"]],
+                         [(5, "accept", 1), (6, "drop", 1)])
+        _, printed, _ = self.ask("explain", "--json", self.list, f"{self.sent}#1")
+        self.assertEqual([(it["outcome"], it["line"], it["verdict"]) for it in json.loads(printed)],
+                         [("decides", 6, "drop"), ("loses", 5, "accept")])
+        honest = self.file("honest.nxos", "ip access-list A\n  10 permit ip host 10.0.0.1 any\n")
+        for name, words, code in (("same", [self.list, self.list], 0), ("changes", [self.list, self.list, self.sent], 0),
+                                  ("dead", [self.list], 0)):
+            self.assertEqual(self.ask(name, *words)[0], code, name)
+        code, printed, _ = self.ask("changes", "--json", self.list, honest, self.sent)
+        self.assertEqual([(it["old"], it["old_line"]) for it in json.loads(printed)["shown"]], [("drop", 6), ("accept", 5)], printed)
+        code, printed, _ = self.ask("convert", "iptables", self.list)
+        self.assertEqual((code, [rule.userdata for rule in rules_of(printed)]), (0, [6, 5]))
+        page = self.folder / "page.html"
+        code, _, said = self.ask("report", self.list, self.sent, "-o", page)
+        self.assertEqual((code, said), (0, ""))
+        told = test_report.unpacked(page.read_text())[0]
+        self.assertEqual([(it["number"], it["verdict"]) for it in told["lists"][0]["entries"] if it["least"]], [(5, "accept"), (6, "drop")])
+
+    def test_where_it_refuses_nothing_else_is_used(self):
+        page = self.folder / "page.html"
+        for name, words, code in (("hits", [self.refused, self.sent], 2), ("explain", [self.refused, f"{self.sent}#1"], 2),
+                                  ("dead", [self.refused], 2), ("same", [self.list, self.refused], 2),
+                                  ("changes", [self.list, self.refused, self.sent], 2), ("convert", ["iptables", self.refused], 3),
+                                  ("report", [self.refused, self.sent, "-o", page], 2)):
+            for more in ([], ["--lenient"]):
+                ended, printed, said = self.ask(name, *words, *more)
+                self.assertEqual((ended, printed), (code, ""), (name, said))
+                self.assertIn("aclc-lists: list: line 7: bad address\n    --unproved reads it", said)
+            ended, printed, said = self.ask(name, *words, "--unproved")
+            self.assertIn("read by this tool's own reader, which isn't proved: aclc-lists: list: line 7: bad address", said)
+            self.assertNotEqual(printed == "" and name != "report", True, name)
+
+    @BUILT
+    def test_the_proved_program_and_the_readers_of_the_tools_tell_the_same(self):
+        sent = EXAMPLES / "office.pcap"
+        for file, words in (("gateway.iptables-save", ["--chain", "FORWARD"]), ("edge.cisco", ["--list", "101"]),
+                            ("edge.cisco", ["--list", "OUTSIDE-IN"])):
+            for name, more in (("hits", [sent]), ("dead", []), ("explain", [f"{sent}#1", f"{sent}#3"])):
+                asked = ["--json", *words, DATA / file, *more]
+                proved = tool(name, *asked, env={"ACLC_LISTS": str(program.list_program())})
+                self.assertEqual(proved[:2], tool(name, *asked)[:2], (name, file))
 
 
 if __name__ == "__main__":

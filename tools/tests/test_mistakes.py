@@ -9,7 +9,7 @@ import unittest
 from pathlib import Path
 
 import mistakes
-from aclc_tools import blocks, capture, keys, list_program
+from aclc_tools import blocks, capture, keys, program
 from aclc_tools.program import TOP, built_program, run
 from tool import BUILT, EXAMPLES
 
@@ -60,11 +60,11 @@ class Page(unittest.TestCase):
 
 
 class Lists(unittest.TestCase):
-    @unittest.skipUnless(list_program.built_list_program(), "the program aclc-lists isn't built")
+    @unittest.skipUnless(program.list_program(), "the program aclc-lists isn't built")
     def test_lists_of_iptables(self):
         for _, lines, said in mistakes.LISTS:
             shown = lines.split("\n")[int(re.match(r"line (\d+)", said).group(1)) - 1]
-            done = subprocess.run([list_program.built_list_program(), "iptables", "/dev/stdin", "INPUT"],
+            done = subprocess.run([program.list_program(), "iptables", "/dev/stdin", "INPUT"],
                                   input=lines.encode(), stdout=subprocess.PIPE, stderr=subprocess.PIPE)
             self.assertEqual((done.returncode, done.stdout, done.stderr.decode()),
                              (3, b"", f"aclc-lists: list: {said}\n  {shown}\n"))
