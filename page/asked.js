@@ -1,46 +1,85 @@
 // SPDX-License-Identifier: BSD-3-Clause
 // What the program says of a list alone and of two lists, by way of the module.
-import { isOfPacket } from './text.js';
+import { isOfPacket, many } from './text.js';
 import { captureOf } from './frames.js';
 import { joined, lineText, numbered, ofNoPacket, rulesOf } from './rules.js';
+import { partOf, ruleFile, search, TooLarge, words } from './parts.js';
 import { Covers } from './covers.js';
+
+// The exit codes of a table that is too large, and of memory that is too small.
+const TOO_LARGE = 4;
+const NO_MEMORY = 9;
+// An audit counts words, and takes no memory for them.
+const MOST_WORDS = 67108864;
 
 // What ends the work: a file that is refused, as the page shows it.
 export class Refused extends Error {
   constructor(role, file, { code, err }, line = null) {
     super(err);
-    const kind = err.includes(' table too large') ? 'table too large' : code === 7 ? 'read fault' : err.replace(/^aclc: ((second )?rules: line|capture: record) \d+: /, '').replace(/^aclc: /, '');
+    const said = err.replace(/^aclc: ((second )?rules: line|capture: record) \d+: /, '').replace(/^aclc: /, '');
+    const kind = err.includes(' table too large') ? 'table too large' : code === 7 ? 'read fault' : said;
     const number = Number(err.match(/line (\d+)/)?.[1] ?? 0);
     const faults = number && line ? [{ line: number, kind, parts: [line(number), '', ''], sentence: '' }] : [];
     this.told = { role, file, code, message: err || `exit code ${code}`, kind, faults, sentence: null };
   }
 }
 
-// A list of rules that the program accepts, with its copy whose userdata are the rules' numbers.
+// A list of rules that the program accepts, with its copy whose userdata are the rules' numbers. A list whose table is too
+// large is looked at by itself, and `refused` says so where packets are asked about.
 export function acceptedList(engine, role, { name, bytes }, asked) {
   const tried = engine.classify(bytes, captureOf(null), asked);
-  if (tried.code) throw new Refused(role, name, tried, (number) => lineText(bytes, number));
+  const refused = tried.code ? new Refused(role, name, tried, (number) => lineText(bytes, number)) : null;
+  if (refused && tried.code !== TOO_LARGE) throw refused;
   const rules = rulesOf(bytes);
-  return { name, bytes, rules, copy: numbered(rules), hasCategories: rules.some((it) => it.match.hasCategories) };
+  const hasCategories = rules.some((it) => it.match.hasCategories);
+  return { name, bytes, rules, copy: numbered(rules), hasCategories, refused };
 }
 
 const linesIn = (out) => new TextDecoder().decode(out).split('\n').slice(0, -1);
 
-// The rules that decide at some key of a packet, and each one's least key in each category.
-function audited(engine, list, asked, found, isOfPackets) {
-  const copy = isOfPackets ? joined(ofNoPacket(), list.copy) : list.copy;
-  const told = engine.audit(copy, { ...asked, categories: list.hasCategories ? 16 : 1 });
-  if (told.code) return told.err;
-  for (const line of linesIn(told.out)) {
+// Takes what an audit tells: the rules that decide at some key of a packet, and each one's least key in each category.
+// Whether some rules decide keys alone that no packet has.
+function take(found, out) {
+  const odd = new Set();
+  for (const line of linesIn(out)) {
     const parts = line.split(' ');
     if (parts[1] !== 'rule' || parts[5] !== 'wins' || parts[4] === '0') continue;
     const [place, category, key] = [Number(parts[4]) - 1, Number(parts[6]), parts[8]];
     const own = found.least[place];
-    if (!(category in own) || (!isOfPacket(own[category]) && isOfPacket(key))) own[category] = key;
-    if (isOfPacket(key)) found.live.add(place);
-    else found.odd = true;
+    if (!(category in own) || comesBefore(key, own[category])) own[category] = key;
+    (isOfPacket(key) ? found.live : odd).add(place);
   }
-  return null;
+  return [...odd].some((place) => !found.live.has(place));
+}
+
+const comesBefore = (one, other) => (isOfPacket(one) === isOfPacket(other) ? one < other : isOfPacket(one));
+
+// Audits a list at once, or where its table is too large each family in parts.
+function audited(engine, list, asked, found, progress) {
+  const look = (content) => {
+    const told = engine.audit(content, { ...asked, categories: list.hasCategories ? 16 : 1 });
+    if (told.code === TOO_LARGE) throw new TooLarge(told.err);
+    if (told.code === NO_MEMORY) throw new TooLarge('the memory of this page is too small');
+    if (told.code) throw new Refused('list', list.name, told);
+    return take(found, told.out);
+  };
+  try {
+    if (look(list.copy)) look(joined(ofNoPacket(), list.copy));
+    return;
+  } catch (fault) {
+    if (!(fault instanceof TooLarge)) throw fault;
+  }
+  for (const family of [4, 6]) {
+    const own = list.rules.map(({ match }, place) => ({ ...match, place, part: partOf(match), data: place + 1 }))
+      .filter((it) => it.family === family);
+    const inPart = (part, rules, isOfPackets) => {
+      progress(`Looking at each rule, in parts: IPv${family}, ${many(rules.length, 'rule')}`);
+      return look(ruleFile(family, part, rules, isOfPackets));
+    };
+    const { left, parts } = search(family, own, inPart);
+    found.left.push(...left.map((it) => ({ ...it, family })));
+    found.parts += parts;
+  }
 }
 
 function leastOf(keys) {
@@ -50,16 +89,20 @@ function leastOf(keys) {
 }
 
 // The entries of a list, with what its audit says of each.
-export function listData(engine, list, asked, checksum) {
-  const found = { live: new Set(), least: list.rules.map(() => ({})), odd: false };
-  let fault = audited(engine, list, asked, found, false);
-  if (!fault && found.odd) fault = audited(engine, list, asked, found, true);
-  const entries = list.rules.map(({ number, text, match }, place) => ({ place: `line ${number}`, number, text, match, verdict: null, end: false,
-    answer: match.userdata, dead: null, unknown: !!fault && !found.live.has(place), least: leastOf(found.least[place]) }));
+export function listData(engine, list, asked, checksum, progress) {
+  const found = { live: new Set(), least: list.rules.map(() => ({})), left: [], parts: 0 };
+  audited(engine, list, { ...asked, maxWords: asked.maxWords ?? MOST_WORDS }, found, progress);
+  const open = new Set(found.left.flatMap((it) => it.rules.map(({ place }) => place)));
+  const entries = list.rules.map(({ number, text, match }, place) => ({ place: `line ${number}`, number, text, match,
+    verdict: null, end: false, answer: match.userdata, dead: null, unknown: open.has(place) && !found.live.has(place),
+    least: leastOf(found.least[place]) }));
   const covers = new Covers(entries);
-  if (!fault) entries.forEach((entry, place) => { if (!found.live.has(place)) entry.dead = covers.of(place); });
-  return { name: list.name, checksum, form: 'rules', none: 0, what: 'line', rules: entries.length, hasCategories: list.hasCategories, entries,
-    chains: null, parts: 1, notLooked: fault ? [fault] : [] };
+  entries.forEach((entry, place) => {
+    if (!found.live.has(place) && !entry.unknown) entry.dead = covers.of(place);
+  });
+  return { name: list.name, checksum, form: 'rules', none: 0, what: 'line', rules: entries.length,
+    hasCategories: list.hasCategories, entries, chains: null, parts: found.parts || 1,
+    notLooked: found.left.map(({ family, part, message }) => `${words(family, part)}: ${message}`) };
 }
 
 // The place of the rule of a list that decides a key in a category, or -1.

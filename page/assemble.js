@@ -146,11 +146,13 @@ export async function assemble(engine, { list, old, captures, maxWords }, made, 
     const count = lists.some((it) => it.hasCategories) ? 16 : 1;
     told.categories = CATEGORIES.slice(0, count);
     progress('Looking at each rule');
-    told.lists = lists.map((it, at) => listData(engine, it, asked, told.files[at].checksum));
+    told.lists = lists.map((it, at) => listData(engine, it, asked, told.files[at].checksum, progress));
     if (old) {
       progress('Comparing the lists');
       told.compare = compareData(engine, ...lists, asked);
     }
+    const refused = captures.length ? lists.find((it) => it.refused) : null;
+    if (refused) throw refused.refused;
     const columns = new Columns(lists, count);
     for (const [place, chosen] of captures.entries()) {
       const which = `${chosen.name}, capture ${place + 1} of ${captures.length}`;

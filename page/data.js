@@ -33,9 +33,9 @@ export function unpacked(content) {
   return reportOf(told, columns);
 }
 
-// A report of what is told and the columns; without a capture it has no packets.
+// A report of what is told and the columns. It has packets if a capture has one that is told.
 export function reportOf(told, columns) {
-  const hasPackets = told.packets && told.files.some((it) => it.role === 'capture');
+  const hasPackets = told.packets?.count && told.files.some((it) => it.role === 'capture');
   return new Report(told, hasPackets ? new Packets(told.packets, columns, told) : null);
 }
 

@@ -1,6 +1,7 @@
 // SPDX-License-Identifier: BSD-3-Clause
 // The rules: what each decides of these packets, and which can never decide.
 import { count, isOfPacket, keyText, make, many, share, timeText } from './text.js';
+import { answerOf } from './sentence.js';
 import { Table } from './table.js';
 
 // Which rows are shown.
@@ -77,17 +78,6 @@ function rowsOf(page, choice) {
   return rows.filter((it) => (it.place < 0 ? choice !== 'dead' && choice !== 'idle' : isShown(list.entries[it.place], it.hits, choice)));
 }
 
-function sentence(page) {
-  const { list, packets } = page.report;
-  const dead = list.entries.filter((it) => it.dead).length;
-  const hits = page.hits(packets ? packets.lists - 1 : 0);
-  const used = list.entries.filter((_, place) => hits.has(place)).length;
-  const parts = [`${many(list.entries.length, 'line')} of ${list.name}`];
-  if (packets) parts.push(`${count(used)} decide${used === 1 ? 's' : ''} ${many(page.keyed, 'packet')}`);
-  parts.push(dead ? `${count(dead)} can never decide` : 'each can decide some packet');
-  return `${parts.join('; ')}.`;
-}
-
 export function rulesView(page) {
   let rows = [];
   const total = page.keyed;
@@ -108,6 +98,7 @@ export function rulesView(page) {
   const choice = make('select', { id: 'rows', onchange: (event) => choose(event.target.value) },
     Object.entries(CHOICES).filter(([value]) => packets || !OF_PACKETS.includes(value)).map(([value, text]) => make('option', { value }, text)));
   choose('all');
-  return [make('p', { class: 'lead' }, sentence(page)), page.report.list.assumed ? make('p', { class: 'told' }, `Assumed of all packets: ${page.report.list.assumed}.`) : null,
+  return [make('p', { class: 'lead' }, answerOf(page).join(' ')),
+    page.report.list.assumed ? make('p', { class: 'told' }, `Assumed of all packets: ${page.report.list.assumed}.`) : null,
     make('div', { class: 'tools' }, make('label', { for: 'rows' }, 'Lines that'), choice), table.element];
 }

@@ -10,6 +10,7 @@ PICTURES = TOP / "page" / "tests" / "out"
 OFFICE, EDITED = EXAMPLES / "office.rules", EXAMPLES / "edited.rules"
 TEXTS = "[...document.querySelectorAll('.table .row:not(.head)')].map(it => it.innerText.replace(/\\s+/g, ' ').trim())"
 VIEW = "document.getElementById('view').innerText"
+LEAD = "document.querySelector('#view .lead').innerText"
 SIDE = "document.getElementById('side').innerText"
 
 

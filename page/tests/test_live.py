@@ -3,13 +3,15 @@
 
 ACLC_PAGE names the page, which packaging/page made.
 """
+import json
 import os
 import unittest
 from pathlib import Path
 
 import browsers
 import made
-from shown import EDITED, EXAMPLES, FILES, OFFICE, VIEW, Shown
+from shown import EDITED, EXAMPLES, FILES, LEAD, OFFICE, VIEW, Shown
+from tool import tool
 
 LIVE = os.environ.get("ACLC_PAGE")
 # No file of this size is read, and it takes no room on a disk.
@@ -69,6 +71,28 @@ class Live(Shown):
         self.assertEqual(len(self.browser.evaluate("[...document.querySelectorAll('.row.dead')].map(it => it.innerText)")), 1)
         self.assertEqual(self.browser.evaluate("document.querySelectorAll('.row.idle, #tab-packets, #tab-time').length"), 0)
         self.picture("rules")
+
+    def test_a_list_whose_table_is_too_large_is_audited(self):
+        """As many lines can't decide as tools/dead finds with all words that a table may have."""
+        rules = FILES.write("fw1000.rules", tool("../examples/lists", "firewall", "1000", "1")[1])
+        dead = json.loads(tool("dead", "--json", "--max-words", "67108864", rules)[1])
+        self.assertEqual((len(dead["dead"]) > 0, dead["unknown"]), (True, []))
+        self.choose(list=rules)
+        self.end()
+        self.assertIn(f"{len(dead['dead'])} lines can never decide a packet.", self.browser.evaluate(LEAD))
+        self.type("rows", "dead")
+        self.assertEqual([it.split(" ")[0] for it in self.rows()][:8], [str(it["line"]) for it in dead["dead"]][:8])
+
+    def test_a_list_that_is_audited_in_parts_is_as_in_a_report(self):
+        rules = FILES.write("fw100.rules", tool("../examples/lists", "firewall", "100", "1")[1])
+        for words, is_open in (("5000", False), ("2000", True)):
+            self.open(FILES.page(f"parts{words}", 2 * is_open, "--max-words", words, rules))
+            expected = self.browser.evaluate(LEAD), self.seen(["rules"])
+            self.assertEqual("it isn’t known whether" in expected[0], is_open)
+            self.choose(list=rules)
+            self.type("words", words)
+            self.end()
+            self.assertEqual((self.browser.evaluate(LEAD), self.seen(["rules"])), expected)
 
     def test_two_lists_without_a_capture_are_compared(self):
         self.is_as_in_a_report(["rules", "lists"], "two", 1, OFFICE, EDITED)

@@ -12,7 +12,7 @@ import browsers
 import made
 from aclc_tools import made_by
 from aclc_tools.program import TOP
-from shown import DATA, EDITED, EXAMPLES, FILES, OFFICE, SIDE, VIEW, Shown
+from shown import DATA, EDITED, EXAMPLES, FILES, LEAD, OFFICE, SIDE, VIEW, Shown
 
 
 class Looks(Shown):
@@ -65,6 +65,22 @@ class Looks(Shown):
         self.assertIn("can never decide: line 2 matches all that it matches", dead[0])
         self.assertEqual(self.browser.evaluate("getComputedStyle(document.querySelector('.row.dead .words')).textDecorationLine"),
                          "line-through")
+
+    def test_the_first_sentence_says_what_is_known(self):
+        """Each line can, some never can, or it isn't known; and no packet is counted that wasn't looked at."""
+        none, cut = FILES.write("none.rules", "# nothing\n"), FILES.write("cut0.pcap", (EXAMPLES / "office.pcap").read_bytes()[:30])
+        for name, code, words, said in (
+                ("can", 0, [OFFICE, EXAMPLES / "office.pcap"],
+                 "3 packets: 2 decided by 2 of 3 lines, 1 by none. Each line can decide some packet."),
+                ("dead", 0, [EXAMPLES / "shadowed.rules"], "1 line can never decide a packet."),
+                ("open", 2, ["--max-words", "20", OFFICE], "Of 3 lines it isn’t known whether they can. Not looked at: IPv4, "),
+                ("none", 0, [none, EXAMPLES / "office.pcap"],
+                 "3 packets: 0 decided by 0 of 0 lines, 3 by none. The list has no rules, so it decides no packet."),
+                ("cut0", 2, [OFFICE, cut], "cut0.pcap is refused at the first record. Each line can decide some packet.")):
+            self.open(FILES.page(name, code, *words))
+            self.assertIn(said, self.browser.evaluate(LEAD))
+            self.assertEqual("Each line" in self.browser.evaluate(LEAD), name in ("can", "cut0"))
+        self.assertEqual(self.browser.evaluate("document.querySelectorAll('.row.idle, #tab-packets, #tab-time').length"), 0)
 
     def test_refusals_have_their_line_and_the_advice(self):
         bad = FILES.write("bad.rules", OFFICE.read_text().replace("1234 : 1234", "1234"))
