@@ -174,12 +174,38 @@ class Views(Looks):
         self.assertIn("There are 2,000 packets, and all are counted.", text)
         self.assertIn("2,000 packets in", self.tab("time"))
 
-    def test_a_million_rows(self):
+    def serve(self):
+        """Opens the page's files as a server has them, whose modules may be called; its address."""
         server = http.server.ThreadingHTTPServer(("127.0.0.1", 0), Quiet)
         threading.Thread(target=server.serve_forever, daemon=True).start()
         self.addCleanup(server.server_close)
         self.addCleanup(server.shutdown)
         self.browser.open(f"http://127.0.0.1:{server.server_port}/index.html")
+        return server
+
+    def test_what_covers_a_rule_among_thousands_is_found_soon(self):
+        """By a look at each rule and pair it takes minutes."""
+        self.serve()
+        found = self.browser.evaluate("""(async () => {
+            const { Covers } = await import('./covers.js');
+            const digits = (number) => number.toString(16).padStart(8, '0');
+            const entry = (low, high, ports, priority) => ({ place: 'it', match: { family: 4, protocol: [0, 0], categories: 65535,
+                sides: [[digits(low), digits(high)], ['00000000', 'ffffffff'], ['0000', 'ffff'], ports], priority } });
+            const part = 2 ** 20, every = ['0000', 'ffff'];
+            const one = Array.from({ length: 4096 }, (_, it) => ((it * 1565) % 4096) * part).map((it) => entry(it, it + part - 1, every, 9));
+            const many = one.slice(0, 1024).map((_, it) => ((it * 389) % 1024) * 4 * part).map((it) => entry(it, it + 4 * part - 1, every, 9));
+            for (let it = 0; it < 30; it++) many.push(entry((it % 4) * 2 ** 30, (it % 4 + 1) * 2 ** 30 - 1,
+                [it, 0xff00 + it].map((port) => digits(port).slice(4)), 8));
+            const started = performance.now();
+            const single = new Covers([...one, entry(0, 2 ** 32 - 1, every, 1)]).of(4096).by.length;
+            const covers = new Covers(many);
+            return [single, many.slice(1024).map((_, it) => covers.of(1024 + it).by.length), performance.now() - started];
+        })()""")
+        self.assertEqual(found[:2], [4096, [256] * 30])
+        self.assertLess(found[2], 20_000)
+
+    def test_a_million_rows(self):
+        server = self.serve()
         rows = self.browser.evaluate("""(async () => {
             const { Table } = await import('./table.js');
             const table = new Table({ label: 'a', columns: [{ title: 'a', width: '1fr' }], cells: (at) => [`row ${at}`] });
