@@ -29,6 +29,7 @@ struct rules {
 struct model {
     struct rte_acl_ctx *ctx;
     uint32_t max_rules;
+    int alg;
     struct rules added;
     struct rules built; /* of no categories where there is no table */
 };
@@ -72,8 +73,10 @@ static void create(const char *name, struct model *model)
     if (ctx == NULL)
         return;
     expect("create", model->ctx == NULL || model->ctx == ctx, true);
-    if (model->ctx == NULL)
+    if (model->ctx == NULL) {
         model->max_rules = param.max_rule_num;
+        model->alg = RTE_ACL_CLASSIFY_SCALAR;
+    }
     model->ctx = ctx;
 }
 
@@ -192,6 +195,70 @@ static void set_algorithm(struct model *model)
     int wanted = model->ctx == NULL || alg > 7 ? -EINVAL : alg == 4 || alg == 5 ? -ENOTSUP : 0;
 
     expect("set", rte_acl_set_ctx_classify(model->ctx, (enum rte_acl_classify_alg)alg), wanted);
+    if (wanted == 0)
+        model->alg = alg == RTE_ACL_CLASSIFY_DEFAULT ? RTE_ACL_CLASSIFY_SCALAR : (int)alg;
+}
+
+/* What a call prints; each prints less than fits. */
+static const char *printed(void (*dump)(const struct model *), const struct model *model)
+{
+    static char text[4096];
+    FILE *before = stdout;
+
+    memset(text, 0, sizeof text);
+    stdout = fmemopen(text, sizeof text, "w");
+    if (stdout == NULL)
+        exit(2);
+    dump(model);
+    fclose(stdout);
+    stdout = before;
+    return text;
+}
+
+static void dump_one(const struct model *model)
+{
+    rte_acl_dump(model->ctx);
+}
+
+static void dump_all(const struct model *unused)
+{
+    (void)unused;
+    rte_acl_list_dump();
+}
+
+/* The lines of a dump, of which only the last one's number isn't known, but where it is 0. */
+static void dump(const char *name, const struct model *model)
+{
+    char wanted[512];
+    const char *text = printed(dump_one, model);
+    int len = snprintf(wanted, sizeof wanted,
+                       "acl context <%s>@%p\n  socket_id=%d\n  alg=%d\n  max_rules=%u\n"
+                       "  rule_size=%zu\n  num_rules=%u\n  num_categories=%u\n  words=",
+                       name, (void *)model->ctx, SOCKET_ID_ANY, model->alg, model->max_rules,
+                       RTE_ACL_RULE_SZ(1), model->added.count, model->built.categories);
+
+    if (model->ctx == NULL) {
+        expect("dump", text[0], 0);
+        return;
+    }
+    expect("dump", strncmp(text, wanted, (size_t)len), 0);
+    expect("dump", atoi(text + len) != 0, model->built.categories != 0);
+    expect("dump", strcmp(strchr(text + len, '\n'), "\n"), 0);
+}
+
+/* Each context is dumped once. */
+static void list_dump(void)
+{
+    const char *text = printed(dump_all, NULL);
+
+    for (int name = 0; name < NAMES; name++) {
+        char head[64];
+        const char *found;
+        snprintf(head, sizeof head, "acl context <%s>@%p\n", names[name], (void *)models[name].ctx);
+        found = strstr(text, head);
+        expect("list_dump", found != NULL, models[name].ctx != NULL);
+        expect("list_dump", found != NULL && strstr(found + 1, head) != NULL, false);
+    }
 }
 
 /* Removes the rules, or the table too, or all. */
@@ -217,7 +284,7 @@ static void make_call(void)
     uint32_t name = below(NAMES);
     struct model *model = &models[name];
 
-    switch (below(8)) {
+    switch (below(9)) {
     case 0:
         create(names[name], model);
         break;
@@ -236,6 +303,10 @@ static void make_call(void)
         break;
     case 6:
         classify(model);
+        break;
+    case 7:
+        dump(names[name], model);
+        list_dump();
         break;
     default:
         if (once_in(3))

@@ -1,13 +1,16 @@
 /* SPDX-License-Identifier: BSD-3-Clause */
 /*
- * Classifies random packets by random lists of rules: random_lists VERDICTS [LISTS [SEED [PRIORITIES]]]
+ * Classifies random packets by random lists of rules:
+ *
+ *     random_lists VERDICTS [LISTS [SEED [PRIORITIES [ZEROS]]]]
  *
  * It is written for librte_acl, and doesn't know which library it is linked with: the script
  * compare_run builds it with DPDK's and with the one of this repository, and compares the files
  * VERDICTS. Such a file has for each list a line of what it is and of what the build answers, and
  * for each packet a line of its verdicts. Layout, rules and packets are drawn by SEED and by the
  * number of the list. No two rules of a list have the same priority, so that every verdict is
- * defined, or where PRIORITIES is given, each has one of so many. It prints a line of sums at the end.
+ * defined, or where PRIORITIES is given and not 0, each has one of so many. One of ZEROS rules has
+ * userdata 0, or one of 20. It prints a line of sums at the end.
  */
 #include <stdbool.h>
 #include <stdint.h>
@@ -41,6 +44,9 @@ static uint64_t state;
 
 /* How many priorities there are, or 0 where no two rules have the same. */
 static uint64_t priorities;
+
+/* One of so many rules has userdata 0. */
+static uint64_t zeros = 20;
 
 /* A random number below a bound: splitmix64 of Steele, Lea and Flood. */
 static uint64_t below(uint64_t bound)
@@ -161,7 +167,7 @@ static void draw_rules(struct list *list)
         priority += (up ? 1 : -1) * (1 + (int32_t)below(1000000));
         rule->data.priority = priorities != 0 ? 1 + (int32_t)below(priorities) : priority;
         rule->data.category_mask = 1 + (uint32_t)below((1u << MOST_CATEGORIES) - 1);
-        rule->data.userdata = once_in(20) ? 0 : (uint32_t)below(0);
+        rule->data.userdata = once_in(zeros) ? 0 : (uint32_t)below(0);
         for (uint32_t place = 0; place < list->config.num_fields; place++) {
             const struct rte_acl_field_def *def = &list->config.defs[place];
 
@@ -263,6 +269,7 @@ int main(int count, char **words)
     if (count < 2 || rte_eal_init(sizeof eal / sizeof *eal, eal_words) < 0)
         return 2;
     priorities = count > 4 ? strtoull(words[4], NULL, 10) : 0;
+    zeros = count > 5 ? strtoull(words[5], NULL, 10) : zeros;
     file = fopen(words[1], "w");
     if (file == NULL)
         return 7;
