@@ -51,7 +51,7 @@ class Columns {
     const answers = texts.map((it) => it.split(' '));
     if (answers.some((it) => it[0] !== answers[0][0])) throw new Error('By two lists the program sees packets of other kinds.');
     const decides = answers.flatMap(([kind, ...its]) => CATEGORIES.slice(0, this.categories).map((at) => (kind in KINDS && KINDS[kind] >= 4 && its[at] !== '-' ? Number(its[at]) - 1 : -1)));
-    this.outcomes.push([KINDS[answers[0][0]], 0, Infinity, -Infinity]);
+    this.outcomes.push([KINDS[answers[0][0]], 0, null, null]);
     this.decides.push(...decides);
     this.places.set(name, place);
     return place;
@@ -87,7 +87,7 @@ class Columns {
 
   // The columns, and what is told of them.
   whole() {
-    const columns = { number: new Uint32Array(this.count), capture: new Uint16Array(this.count), time: new Float64Array(this.count), kind: new Uint8Array(this.count),
+    const columns = { number: new Uint32Array(this.count), capture: new Uint16Array(this.count), time: new BigInt64Array(this.count), kind: new Uint8Array(this.count),
       key: new Uint32Array(this.count), outcome: new Uint32Array(this.count), decides: Int32Array.from(this.decides), keys: new Uint8Array(ROW * this.count) };
     const all = this.parts.flatMap((it) => (it.times ? [it.times] : []));
     const start = all.reduce((least, times) => times.reduce((own, it) => (it < own ? it : own), least ?? times[0]), undefined) ?? 0n;
@@ -96,12 +96,12 @@ class Columns {
       columns.keys.set(part.rows, ROW * at);
       for (let place = 0; place < part.count; place++, at++) this.fill(columns, part, place, at, start);
     }
-    for (const it of this.outcomes) if (it[2] === Infinity) it[2] = it[3] = 0;
-    return { columns, told: { count: this.count, held: this.count, allHeld: true, start: String(start), first: 0, width: 1, buckets: [], outcomes: this.outcomes } };
+    const told = { count: this.count, held: this.count, allHeld: true, most: this.count, first: 0, width: 1, buckets: [], outcomes: this.outcomes };
+    return { columns, told };
   }
 
   fill(columns, part, place, at, start) {
-    const time = part.times ? Number(part.times[place] - start) : 0;
+    const time = part.times ? part.times[place] : start;
     const outcome = this.outcomes[part.outcome[place]];
     columns.number[at] = place + 1;
     columns.capture[at] = part.capture;
@@ -109,8 +109,8 @@ class Columns {
     columns.kind[at] = part.rows[ROW * place];
     columns.key[at] = ROW * at + 1;
     columns.outcome[at] = part.outcome[place];
-    outcome[2] = Math.min(outcome[2], time);
-    outcome[3] = Math.max(outcome[3], time);
+    if (outcome[2] === null || time < outcome[2]) outcome[2] = time;
+    if (outcome[3] === null || time > outcome[3]) outcome[3] = time;
   }
 }
 
@@ -124,8 +124,8 @@ function addCapture(engine, columns, place, file, told, asked) {
   if (first.code) told.refusals.push(new Refused('capture', name, first).told);
   const texts = runs.map(([copy]) => answersIn(copy.out));
   const rows = engine.records(bytes, texts[0].length + 1);
-  const times = timesOf(bytes, rows.count);
-  if (!times && rows.count) told.notes.push(`${name}: its times can’t be told`);
+  const { times, why } = timesOf(bytes, rows.count);
+  if (!times && rows.count) told.notes.push(`${name}: its times aren’t shown: ${why}`);
   columns.add(place, texts, rows, times, runs.map(([, original]) => answersIn(original.out)));
   return rows.count;
 }

@@ -12,8 +12,8 @@ export function hitsOf(packets, list, category) {
     if (!hits) found.set(entry, { total: outcome.total, first: outcome.first, last: outcome.last });
     else {
       hits.total += outcome.total;
-      hits.first = Math.min(hits.first, outcome.first);
-      hits.last = Math.max(hits.last, outcome.last);
+      if (outcome.first < hits.first) hits.first = outcome.first;
+      if (outcome.last > hits.last) hits.last = outcome.last;
     }
   });
   return found;

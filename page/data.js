@@ -12,7 +12,7 @@
 //
 // An entry is a line of a list. Where a place is -1, no rule decides.
 
-const ARRAYS = { B: Uint8Array, H: Uint16Array, I: Uint32Array, i: Int32Array, d: Float64Array };
+const ARRAYS = { B: Uint8Array, H: Uint16Array, I: Uint32Array, i: Int32Array, q: BigInt64Array };
 
 const bytesOf = (base64) => Uint8Array.from(atob(base64), (it) => it.charCodeAt(0));
 
@@ -61,21 +61,25 @@ export class Report {
 }
 
 export class Packets {
-  // `told` is {count, held, allHeld, start, outcomes, buckets, width}; a column has a number for each packet held.
+  // `told` is {count, held, allHeld, most, first, outcomes, buckets, width}; a column has a number for each packet held.
+  // Times are nanoseconds since 1970, as BigInts.
   constructor(told, columns, { lists, categories }) {
     Object.assign(this, columns);
     this.total = told.count;
     this.held = told.held;
     this.allHeld = told.allHeld;
     this.confirmed = told.confirmed;
+    this.most = told.most;
     this.firstOfEach = told.first;
-    this.start = BigInt(told.start);
-    this.width = told.width;
-    this.buckets = told.buckets;
-    this.outcomes = told.outcomes.map(([kind, total, first, last]) => ({ kind, total, first, last }));
+    this.width = BigInt(told.width);
+    this.buckets = told.buckets.map(([time, outcome, total]) => [BigInt(time), outcome, total]);
+    this.outcomes = told.outcomes.map(([kind, total, first, last]) => ({ kind, total, first: BigInt(first), last: BigInt(last) }));
     this.lists = lists.length;
     this.categories = categories.length;
-    this.end = this.outcomes.reduce((most, it) => Math.max(most, it.last), 0);
+    this.start = this.outcomes.reduce((least, it) => (it.first < least ? it.first : least), this.outcomes[0].first);
+    this.end = this.outcomes.reduce((most, it) => (it.last > most ? it.last : most), this.start);
+    this.hasTimes = this.start !== 0n || this.end !== 0n;
+    this.digits = null;
   }
 
   // The entry that decides the packets of an outcome.
@@ -96,9 +100,18 @@ export class Packets {
     return text;
   }
 
-  // Nanoseconds since 1970.
-  timeOf(at) {
-    return this.start + BigInt(Math.round(this.time[at]));
+  // How many digits of a second tell all times exactly: 3, 6 or 9.
+  timeDigits() {
+    if (this.digits) return this.digits;
+    this.digits = 3;
+    const its = this.outcomes.flatMap(({ first, last }) => [first, last]);
+    for (const times of [its, this.time]) {
+      for (const it of times) {
+        while (this.digits < 9 && it % (this.digits === 3 ? 1000000n : 1000n)) this.digits += 3;
+        if (this.digits === 9) return 9;
+      }
+    }
+    return this.digits;
   }
 }
 

@@ -3,7 +3,7 @@
 
 export const everything = () => ({ entry: '', address: '', port: '', answer: '', from: null, to: null, changed: false, pair: null });
 
-export const isEverything = (filter) => JSON.stringify({ ...filter, pair: !!filter.pair }) === JSON.stringify({ ...everything(), pair: false });
+export const isEverything = (filter) => Object.entries(everything()).every(([name, value]) => filter[name] === value);
 
 // The bytes and the length of a network or an address, or null where the text is none.
 export function networkOf(text) {
@@ -65,6 +65,13 @@ function keptOutcomes(report, filter, category, isChanged) {
     if (filter.pair && !filter.pair.outcomes.has(place)) return 0;
     return filter.changed && !isChanged[place] ? 0 : 1;
   });
+}
+
+// How many packets of the captures a filter keeps, of those that aren't held too; null where that isn't known.
+export function totalBy(report, filter, category, isChanged) {
+  if (filter.address.trim() || filter.port.trim() || filter.from !== null) return null;
+  const kept = keptOutcomes(report, filter, category, isChanged);
+  return report.packets.outcomes.reduce((sum, { total }, place) => sum + kept[place] * total, 0);
 }
 
 // The places of the packets that are shown, in their order; what can't be read is said.

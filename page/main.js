@@ -32,7 +32,6 @@ class Page {
     this.known = new Map();
     const { packets } = report;
     if (packets) {
-      packets.hasTimes = packets.end > 0 || packets.start !== 0n;
       this.isChanged = packets.outcomes.map((_, outcome) => changedIn(report, outcome) >= 0);
     }
     this.keyed = packets ? packets.outcomes.reduce((sum, it) => sum + (it.kind >= 4 ? it.total : 0), 0) : 0;

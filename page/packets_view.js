@@ -1,7 +1,7 @@
 // SPDX-License-Identifier: BSD-3-Clause
 // The packets, filtered, each with what decides it.
-import { addressText, count, endText, fieldsOf, make, many, protocolName, timeText, WITH_PORTS } from './text.js';
-import { everything, isEverything, shownBy } from './filters.js';
+import { addressText, count, endText, fieldsOf, make, many, protocolName, rangeText, timeText, WITH_PORTS } from './text.js';
+import { everything, isEverything, shownBy, totalBy } from './filters.js';
 import { KINDS } from './data.js';
 import { Table } from './table.js';
 
@@ -33,7 +33,7 @@ function rowOf(page, at) {
   let by = 'no rule is asked: the packet has no key';
   if (entry !== null) by = entry < 0 ? 'no rule matches' : `${report.list.entries[entry].place}: ${report.list.entries[entry].text}`;
   const number = page.captures.length > 1 ? `${packets.capture[at] + 1}#${packets.number[at]}` : String(packets.number[at]);
-  const time = packets.hasTimes ? [timeText(packets.timeOf(at), 3)] : [];
+  const time = packets.hasTimes ? [timeText(packets.time[at], packets.timeDigits())] : [];
   const cells = [number, ...time, ...fields(packets, at)];
   if (report.old) cells.push(answersText(report, at, 0));
   return [...cells, answersText(report, at, list), by];
@@ -106,7 +106,7 @@ function chips(page, again) {
     again(true);
   } }, text, make('span', { 'aria-hidden': 'true' }, ' ×'));
   const found = [];
-  if (filter.from !== null) found.push(chip(`from ${timeText(report.packets.start + BigInt(Math.floor(filter.from)))} to ${timeText(report.packets.start + BigInt(Math.ceil(filter.to)))}`, { from: null, to: null }));
+  if (filter.from !== null) found.push(chip(`from ${rangeText(filter.from, filter.to)}`, { from: null, to: null }));
   if (filter.pair) found.push(chip(`old ${placeText(report.old, filter.pair.old)}, new ${placeText(report.list, filter.pair.now)}`, { pair: null }));
   return found;
 }
@@ -116,7 +116,17 @@ const placeText = (list, place) => (place < 0 ? 'no rule' : list.entries[place].
 function lead(page) {
   const { packets } = page.report;
   if (packets.allHeld) return null;
-  return make('p', { class: 'told' }, `There are ${many(packets.total, 'packet')}, and all are counted. ${count(packets.held)} are in this file: the first ${packets.firstOfEach} of each outcome.`);
+  return make('p', { class: 'told' }, `There are ${many(packets.total, 'packet')}, and all are counted. ${count(packets.held)} are in this file: `
+    + `the first ${count(packets.most)}, and after them up to ${packets.firstOfEach} of each outcome that has fewer.`);
+}
+
+// How many packets are shown, and where not all are held, of how many.
+function shownText(page, shown) {
+  const { held, allHeld } = page.report.packets;
+  if (allHeld) return `${count(shown)} of ${many(held, 'packet')}`;
+  const total = totalBy(page.report, page.filter, page.category, page.isChanged);
+  const all = total === null ? '' : `; in the captures there are ${count(total)}`;
+  return `${count(shown)} of the ${many(held, 'packet')} that are in this file${all}`;
 }
 
 export function packetsView(page) {
@@ -137,7 +147,7 @@ export function packetsView(page) {
       return;
     }
     places = found;
-    told.textContent = `${count(places.length)} of ${many(page.report.packets.held, 'packet')}`;
+    told.textContent = shownText(page, places.length);
     table.show(places.length);
   };
   const all = make('button', { type: 'button', onclick: () => {

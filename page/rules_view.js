@@ -47,7 +47,7 @@ function bar(part, whole) {
 function whenOf(packets, hits) {
   if (!packets?.hasTimes) return [];
   if (!hits) return [''];
-  const [first, last] = [hits.first, hits.last].map((it) => timeText(packets.start + BigInt(Math.round(it)), 3));
+  const [first, last] = [hits.first, hits.last].map((it) => timeText(it, packets.timeDigits()));
   return [make('div', { class: 'two' }, make('span', {}, first), make('span', { class: 'note' }, first === last ? '' : last))];
 }
 

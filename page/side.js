@@ -37,7 +37,7 @@ export function ruleDetails(page, place) {
   const facts = [entry.verdict ? fact('Verdict', entry.verdict) : fact('Userdata', String(entry.match?.userdata ?? entry.answer)),
     packets ? fact('Decides', `${many(hits?.total ?? 0, 'packet')} of ${count(page.keyed)}`) : []];
   if (hits && packets.hasTimes) {
-    facts.push(fact('First', timeText(packets.start + BigInt(Math.round(hits.first)), 6)), fact('Last', timeText(packets.start + BigInt(Math.round(hits.last)), 6)),
+    facts.push(...['first', 'last'].map((it) => fact(it === 'first' ? 'First' : 'Last', `${timeText(hits[it], packets.timeDigits())} UTC`)),
       fact('Over', lengthText(hits.last - hits.first)));
   }
   const covers = entry.dead?.by.length ? [make('h3', {}, 'What covers it'), make('ol', { class: 'plain' }, entry.dead.by.map((it) => linkTo(page, list, it)))] : [];
@@ -72,7 +72,7 @@ export function packetDetails(page, at) {
   const { packets } = report;
   const capture = page.captures[packets.capture[at]];
   const head = [make('h2', {}, `Packet ${packets.number[at]}`), make('p', { class: 'note' }, capture?.name ?? '')];
-  const time = packets.hasTimes ? fact('Time', `${timeText(packets.timeOf(at), 9)} UTC`) : [];
+  const time = packets.hasTimes ? fact('Time', `${timeText(packets.time[at], packets.timeDigits())} UTC`) : [];
   if (!packets.isOfKey(at)) {
     return [...head, make('dl', { class: 'facts' }, fact('Class', KINDS[packets.kind[at]]), time),
       make('p', {}, packets.kind[at] === 1 ? 'The packet was cut before the end of its key, so no rule is asked.' : 'It is no packet of IPv4 or IPv6, so no rule is asked.')];

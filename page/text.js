@@ -80,27 +80,42 @@ export function keyText(key) {
   return `${protocolName(protocol)} ${from} → ${to}`;
 }
 
-// A number of nanoseconds since 1970 as a time of Greenwich, to so many digits of a second.
+// A number of nanoseconds since 1970 as a time of Greenwich, to so many digits of a second. Where it has no date of four
+// digits for the year, it is a number of seconds.
 export function timeText(nanoseconds, digits = 3) {
   const rest = ((nanoseconds % 1000000000n) + 1000000000n) % 1000000000n;
   const seconds = (nanoseconds - rest) / 1000000000n;
   const part = rest.toString().padStart(9, '0').slice(0, digits);
   const date = new Date(Number(seconds) * 1000);
-  if (Number.isNaN(date.getTime())) return `${seconds}.${part} s`;
+  const year = date.getUTCFullYear();
+  if (!(year >= 0 && year <= 9999)) return `${secondsText(nanoseconds)} s`;
   return `${date.toISOString().slice(0, 19).replace('T', ' ')}${digits ? '.' : ''}${part}`;
 }
 
-// The end of a range of times, without the date if that is the day of its start.
-export function endTimeText(start, end) {
-  const [from, to] = [timeText(start), timeText(end)];
-  return from.slice(0, 10) === to.slice(0, 10) ? to.slice(11) : to;
+// All digits of a number of nanoseconds as seconds.
+function secondsText(nanoseconds) {
+  const [sign, digits] = [nanoseconds < 0n ? '-' : '', String(nanoseconds).replace('-', '').padStart(10, '0')];
+  return `${sign}${digits.slice(0, -9)}.${digits.slice(-9)}`;
 }
+
+// The same to as few digits as tell it exactly.
+export const exactText = (nanoseconds) => timeText(nanoseconds, [3, 6, 9].find((it) => !(nanoseconds % 10n ** BigInt(9 - it))));
+
+// The end of a range of times, without the date if that is the day of its start.
+export function endTimeText(start, end, text = timeText) {
+  const [from, to] = [text(start), text(end)];
+  return from[10] === ' ' && from.slice(0, 11) === to.slice(0, 11) ? to.slice(11) : to;
+}
+
+// A range of times, told exactly.
+export const rangeText = (start, end) => `${exactText(start)} to ${endTimeText(start, end, exactText)}`;
 
 // A length of time in nanoseconds, in the unit that suits it.
 export function lengthText(nanoseconds) {
   const units = [[86400e9, 'd'], [3600e9, 'h'], [60e9, 'min'], [1e9, 's'], [1e6, 'ms'], [1e3, 'µs'], [1, 'ns']];
-  const [size, unit] = units.find(([it]) => nanoseconds >= it) ?? [1, 'ns'];
-  return `${Number((nanoseconds / size).toPrecision(3))} ${unit}`;
+  const length = Number(nanoseconds);
+  const [size, unit] = units.find(([it]) => length >= it) ?? [1, 'ns'];
+  return `${Number((length / size).toPrecision(3))} ${unit}`;
 }
 
 // A number of bytes.

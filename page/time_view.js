@@ -1,6 +1,6 @@
 // SPDX-License-Identifier: BSD-3-Clause
 // Answers over the time of the capture as stacked bars, by line or by answer; a range of it filters the packets.
-import { count, endTimeText, lengthText, make, many, timeText } from './text.js';
+import { count, endTimeText, lengthText, make, many, rangeText, timeText } from './text.js';
 
 const MOST_SERIES = 8;
 const PARTS = 160;
@@ -18,10 +18,25 @@ function labelsOf(page, by) {
   });
 }
 
+// The parts of the time, one for each bar: where the first begins, how long each is, and how many there are. Where not all
+// packets are held they are the parts in which these were counted.
+function partsOf({ allHeld, start, end, width, buckets }) {
+  if (allHeld) {
+    const own = (end - start + BigInt(PARTS)) / BigInt(PARTS);
+    return { start, width: own, parts: Number((end - start) / own) + 1 };
+  }
+  let [first, last] = [start, start];
+  for (const [time] of buckets) {
+    if (time < first) first = time;
+    if (time > last) last = time;
+  }
+  return { start: first, width, parts: Number((last - first) / width) + 1 };
+}
+
 // Each packet, or each part of the time where not all packets are held: a time, an outcome and a count.
 function eachOf(packets, does) {
   if (packets.allHeld) for (let at = 0; at < packets.held; at++) does(packets.time[at], packets.outcome[at], 1);
-  else for (const [time, outcome, total] of packets.buckets) does(Math.max(0, time), outcome, total);
+  else for (const [time, outcome, total] of packets.buckets) does(time, outcome, total);
 }
 
 // The counts of each part of the time: the series, the most first, and a row of counts for each.
@@ -34,11 +49,11 @@ function countsOf(page, by) {
   const shown = names.length > MOST_SERIES + 1 ? [...names.slice(0, MOST_SERIES), 'all others'] : names;
   const place = new Map(names.map((name, at) => [name, Math.min(at, shown.length - 1)]));
   const series = labels.map((name) => place.get(name));
-  const rows = Array.from({ length: PARTS }, () => new Float64Array(shown.length));
-  const width = Math.max(1, (packets.end + 1) / PARTS);
-  eachOf(packets, (time, outcome, total) => { rows[Math.min(PARTS - 1, Math.floor(time / width))][series[outcome]] += total; });
+  const { start, width, parts } = partsOf(packets);
+  const rows = Array.from({ length: parts }, () => new Float64Array(shown.length));
+  eachOf(packets, (time, outcome, total) => { rows[Number((time - start) / width)][series[outcome]] += total; });
   const sums = shown.map((_, at) => rows.reduce((sum, row) => sum + row[at], 0));
-  return { names: shown, rows, width, sums };
+  return { names: shown, rows, start, width, parts, sums };
 }
 
 const classOf = (name, at) => (name === 'all others' ? 'others' : name === 'no rule' || name === 'no IP packet' ? 'none' : `series${at % MOST_SERIES}`);
@@ -52,26 +67,26 @@ function roundUp(value) {
 const inner = { width: SIZE.width - SIZE.left - SIZE.right, height: SIZE.height - SIZE.top - SIZE.bottom };
 
 function barsOf(found, most) {
-  const step = inner.width / PARTS;
+  const step = inner.width / found.parts;
   return found.rows.flatMap((row, part) => {
     let under = 0;
     return [...row].map((value, at) => {
       if (!value) return null;
       const height = (value / most) * inner.height;
       under += height;
-      return make('rect', { class: classOf(found.names[at], at), x: SIZE.left + part * step, width: Math.max(0.8, step - 0.6),
+      return make('rect', { class: classOf(found.names[at], at), x: SIZE.left + part * step, width: Math.max(0.8, step - Math.min(0.6, step / 4)),
         y: SIZE.top + inner.height - under, height });
     });
   });
 }
 
-function axes(packets, most) {
+function axes({ start, width, parts }, most) {
   const lines = [0, 0.25, 0.5, 0.75, 1].filter((it) => it === 0 || it * most >= 1).map((part) => {
     const y = SIZE.top + inner.height * (1 - part);
     return make('g', {}, make('line', { class: 'grid', x1: SIZE.left, x2: SIZE.width - SIZE.right, y1: y, y2: y }),
       make('text', { x: SIZE.left - 6, y: y + 4, 'text-anchor': 'end' }, count(Math.round(part * most))));
   });
-  const timeAt = (part) => packets.start + BigInt(Math.round(part * packets.end));
+  const timeAt = (part) => start + (width * BigInt(parts) * BigInt(part * 2)) / 2n;
   const times = [0, 0.5, 1].map((part) => make('text', { x: SIZE.left + part * inner.width, y: SIZE.height - 8,
     'text-anchor': ['start', 'middle', 'end'][part * 2] }, part ? endTimeText(timeAt(0), timeAt(part)) : timeText(timeAt(0))));
   return [...lines, ...times];
@@ -79,15 +94,14 @@ function axes(packets, most) {
 
 // The chart, on which a range is drawn.
 function chartOf(page, found, choose) {
-  const { packets } = page.report;
   const most = roundUp(Math.max(...found.rows.map((row) => row.reduce((sum, it) => sum + it, 0))));
   const range = make('rect', { class: 'range', y: SIZE.top, height: inner.height, x: 0, width: 0 });
   const chart = make('svg', { viewBox: `0 0 ${SIZE.width} ${SIZE.height}`, class: 'chart', role: 'img',
-    'aria-label': `Packets over ${lengthText(packets.end)}, stacked by ${found.names.join(', ')}` }, axes(packets, most), barsOf(found, most), range);
+    'aria-label': `Packets over ${lengthText(found.width * BigInt(found.parts))}, stacked by ${found.names.join(', ')}` }, axes(found, most), barsOf(found, most), range);
   const partAt = (event) => {
     const box = chart.getBoundingClientRect();
     const x = ((event.clientX - box.left) / box.width) * SIZE.width - SIZE.left;
-    return Math.max(0, Math.min(PARTS - 1, Math.floor((x / inner.width) * PARTS)));
+    return Math.max(0, Math.min(found.parts - 1, Math.floor((x / inner.width) * found.parts)));
   };
   let from = null;
   chart.addEventListener('pointerdown', (event) => {
@@ -99,8 +113,8 @@ function chartOf(page, found, choose) {
   chart.addEventListener('pointermove', (event) => from !== null && choose(Math.min(from, partAt(event)), Math.max(from, partAt(event)) + 1));
   chart.addEventListener('pointerup', () => { from = null; });
   const mark = (first, last) => {
-    range.setAttribute('x', SIZE.left + (first / PARTS) * inner.width);
-    range.setAttribute('width', first === 0 && last === PARTS ? 0 : ((last - first) / PARTS) * inner.width);
+    range.setAttribute('x', SIZE.left + (first / found.parts) * inner.width);
+    range.setAttribute('width', first === 0 && last === found.parts ? 0 : ((last - first) / found.parts) * inner.width);
   };
   return { chart, mark };
 }
@@ -110,35 +124,40 @@ function legendOf(found) {
     `${name} `, make('span', { class: 'note' }, count(found.sums[at])))));
 }
 
-function slider(id, text, value, does) {
-  const input = make('input', { type: 'range', id, min: 0, max: PARTS, step: 1, oninput: (event) => does(Number(event.target.value)) });
+function slider(id, text, value, parts, does) {
+  const input = make('input', { type: 'range', id, min: 0, max: parts, step: 1, oninput: (event) => does(Number(event.target.value)) });
   input.value = value;
   return { input, field: make('div', { class: 'field' }, make('label', { for: id }, text), input) };
 }
 
+// Where the parts that are picked begin, and where those after them do.
+const rangeOf = ({ start, width }, { first, last }) => [first, last].map((part) => start + width * BigInt(part));
+
 // The range that is picked, with two sliders for the keyboard, and what is done with it.
 function picker(page, found, told) {
-  const { packets } = page.report;
-  const state = { first: 0, last: PARTS, mark: () => {} };
-  if (page.filter.from !== null) Object.assign(state, { first: Math.floor(page.filter.from / found.width), last: Math.min(PARTS, Math.ceil(page.filter.to / found.width)) });
+  const { start, width, parts } = found;
+  const state = { first: 0, last: parts, mark: () => {} };
+  if (page.filter.from !== null) {
+    const placeOf = (time) => Math.max(0, Math.min(parts, Number((time - start) / width)));
+    Object.assign(state, { first: placeOf(page.filter.from), last: placeOf(page.filter.to + width - 1n) });
+  }
   const choose = (first, last) => {
-    Object.assign(state, { first: Math.min(first, PARTS - 1), last: Math.max(last, first + 1) });
+    Object.assign(state, { first: Math.min(first, parts - 1), last: Math.max(last, first + 1) });
     from.input.value = state.first;
     to.input.value = state.last;
     state.mark(state.first, state.last);
     let total = 0;
     for (const row of found.rows.slice(state.first, state.last)) total += row.reduce((sum, it) => sum + it, 0);
-    const [start, end] = [state.first, state.last].map((part) => packets.start + BigInt(Math.round(part * found.width)));
-    told.textContent = `${timeText(start)} to ${endTimeText(start, end)}: ${many(total, 'packet')}`;
+    told.textContent = `${rangeText(...rangeOf(found, state))}: ${many(total, 'packet')}`;
   };
-  const from = slider('from', 'From', state.first, (value) => choose(value, Math.max(state.last, value + 1)));
-  const to = slider('to', 'To', state.last, (value) => choose(Math.min(state.first, Math.max(0, value - 1)), value));
+  const from = slider('from', 'From', state.first, parts, (value) => choose(value, Math.max(state.last, value + 1)));
+  const to = slider('to', 'To', state.last, parts, (value) => choose(Math.min(state.first, Math.max(0, value - 1)), value));
   return { state, choose, fields: [from.field, to.field] };
 }
 
 export function timeView(page) {
   const { packets } = page.report;
-  if (!packets.end) return [make('p', { class: 'lead' }, 'All packets of this capture have the same time, so there is nothing to draw.')];
+  if (packets.end === packets.start) return [make('p', { class: 'lead' }, 'All packets of this capture have the same time, so there is nothing to draw.')];
   const place = make('div', {});
   const told = make('span', { class: 'note', role: 'status' });
   const draw = (by) => {
@@ -146,14 +165,14 @@ export function timeView(page) {
     const { state, choose, fields } = picker(page, found, told);
     const { chart, mark } = chartOf(page, found, choose);
     state.mark = mark;
-    const show = make('button', { type: 'button', onclick: () => page.showRange(state.first * found.width, state.last * found.width) }, 'Show these packets');
-    const all = make('button', { type: 'button', onclick: () => choose(0, PARTS) }, 'The whole time');
+    const show = make('button', { type: 'button', onclick: () => page.showRange(...rangeOf(found, state)) }, 'Show these packets');
+    const all = make('button', { type: 'button', onclick: () => choose(0, found.parts) }, 'The whole time');
     place.replaceChildren(legendOf(found), chart, make('div', { class: 'tools' }, fields, show, all, told));
     choose(state.first, state.last);
   };
   const by = make('select', { id: 'stacked', onchange: (event) => draw(event.target.value) },
     make('option', { value: 'answer' }, 'answer'), make('option', { value: 'line' }, page.report.list.what));
   draw('answer');
-  return [make('p', { class: 'lead' }, `${many(packets.total, 'packet')} in ${lengthText(packets.end)}; times are of Greenwich. Draw over the bars to pick a part of it.`),
+  return [make('p', { class: 'lead' }, `${many(packets.total, 'packet')} in ${lengthText(packets.end - packets.start)}; times are of Greenwich. Draw over the bars to pick a part of it.`),
     make('div', { class: 'tools' }, make('label', { for: 'stacked' }, 'Stacked by'), by), place];
 }

@@ -56,13 +56,19 @@ function ofPcapng(view, most) {
   return times;
 }
 
-// The times of so many records, or null where the page sees another number of them.
+const MOST_TIME = 1n << 63n;
+
+// The times of so many records, or why they aren't told: the page sees another number of records, or one without a date.
 export function timesOf(capture, count) {
   const view = new DataView(capture.buffer, capture.byteOffset, capture.byteLength);
-  if (view.byteLength < 24) return null;
+  const times = view.byteLength < 24 ? [] : allOf(view, count);
+  if (times.length !== count) return { times: null, why: `the page reads ${times.length} records, and the program ${count}` };
+  const odd = times.findIndex((it) => it <= -MOST_TIME || it >= MOST_TIME);
+  return odd < 0 ? { times } : { times: null, why: `that of packet ${odd + 1} is before 1678 or after 2262` };
+}
+
+function allOf(view, count) {
   const [big, small] = [view.getUint32(0), view.getUint32(0, true)];
-  let times = [];
-  if (big === SECTION) times = ofPcapng(view, count);
-  else if (big in UNITS || small in UNITS) times = ofPcap(view, small in UNITS, UNITS[small] ?? UNITS[big], count);
-  return times.length === count ? times : null;
+  if (big === SECTION) return ofPcapng(view, count);
+  return big in UNITS || small in UNITS ? ofPcap(view, small in UNITS, UNITS[small] ?? UNITS[big], count) : [];
 }

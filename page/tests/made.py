@@ -16,6 +16,15 @@ def packet(protocol, source, destination, ports):
     return bytes(12) + b"\x08\x00" + head + body
 
 
+def steady(times, ports=(443, 80, 22)):
+    """A savefile with a packet at each of these times, which are nanoseconds since 1970, to one port after the other."""
+    parts = [struct.pack("<IHHIIII", 0xA1B23C4D, 2, 4, 0, 0, 262144, 1)]
+    for number, time in enumerate(times):
+        frame = packet(6, bytes([10, 0, 0, 1]), bytes([192, 0, 2, 1]), (1024, ports[number % len(ports)]))
+        parts.append(struct.pack("<IIII", *divmod(time, 10 ** 9), len(frame), len(frame)) + frame)
+    return b"".join(parts)
+
+
 def capture(count, seed=1, hosts=40):
     """A savefile of so many packets in an hour, of some hosts and services, more in its middle than at its ends."""
     draw = random.Random(seed)

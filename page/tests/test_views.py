@@ -4,8 +4,11 @@
 Each test opens a page that tools/report made, as a user opens it: from a disk. At its end the console has no message, and
 no request was made.
 """
+import calendar
 import http.server
+import re
 import threading
+import time
 import unittest
 
 import browsers
@@ -13,6 +16,12 @@ import made
 from aclc_tools import made_by
 from aclc_tools.program import TOP
 from shown import DATA, EDITED, EXAMPLES, FILES, LEAD, OFFICE, SIDE, VIEW, Shown
+
+
+def nanoseconds(text):
+    """The nanoseconds since 1970 of a time as the page shows it."""
+    whole, _, part = text.partition(".")
+    return calendar.timegm(time.strptime(whole, "%Y-%m-%d %H:%M:%S")) * 10 ** 9 + int(part.ljust(9, "0"))
 
 
 class Looks(Shown):
@@ -203,6 +212,65 @@ class Views(Looks):
         })()""")
         self.assertEqual(found[:2], [4096, [256] * 30])
         self.assertLess(found[2], 20_000)
+
+    def test_each_bar_is_a_part_of_the_time_in_which_packets_were_counted(self):
+        """A steady stream has bars of one height, and a range says how many packets it has, also where few are held."""
+        times = [made.START * 10 ** 9 + at * 10 ** 6 for at in range(5000)]
+        sent = FILES.write("steady.pcap", made.steady(times))
+        for name, words in (("steady", []), ("steadily", ["--packets", "100"])):
+            self.open(FILES.page(name, 0, FILES.write("hour.rules", made.RULES), sent, *words))
+            self.tab("time")
+            self.type("stacked", "line")
+            bars = self.browser.evaluate("""(() => {
+                const sums = {};
+                for (const it of document.querySelectorAll('.chart rect:not(.range)')) {
+                    sums[it.getAttribute('x')] = (sums[it.getAttribute('x')] ?? 0) + Number(it.getAttribute('height'));
+                }
+                return Object.keys(sums).sort((one, other) => one - other).map((it) => sums[it]);
+            })()""")
+            parts = int(self.browser.evaluate("document.getElementById('to').max"))
+            self.assertEqual((len(bars), parts > 100), (parts, True))
+            self.assertLess(max(bars[1:-1]) / min(bars[1:-1]), 1.1)
+            for first, last in ((0, parts), (0, 1), (3, 10), (parts - 1, parts)):
+                for field, value in (("to", parts), ("from", 0), ("to", last), ("from", first)):
+                    self.type(field, str(value))
+                told = self.browser.evaluate("document.querySelector('.tools [role=status]').textContent")
+                start, end, count = re.fullmatch(r"(.*) to (.*): ([0-9,]+) packets?", told).groups()
+                low, high = nanoseconds(start), nanoseconds(end if " " in end else f"{start[:11]}{end}")
+                self.assertEqual(int(count.replace(",", "")), sum(low <= it < high for it in times), told)
+
+    def test_times_are_exact_however_far_apart(self):
+        times = [made.START * 10 ** 9 + 1, (made.START + 86400 * 4000) * 10 ** 9 + 123456789]
+        self.open(FILES.page("far", 0, FILES.write("hour.rules", made.RULES), FILES.write("far.pcap", made.steady(times))))
+        self.assertIn("2025-11-24 16:00:00.000000001", self.browser.evaluate(VIEW))
+        self.tab("packets")
+        self.assertEqual([nanoseconds(" ".join(it.split(" ")[1:3])) for it in self.rows()], times)
+        self.click(2)
+        self.assertIn("2036-11-06 16:00:00.123456789 UTC", self.browser.evaluate(SIDE))
+
+    def test_a_time_without_a_date_is_not_cut(self):
+        self.serve()
+        found = self.browser.evaluate("""import('./text.js').then(({ exactText, rangeText, timeText }) => [
+            timeText(-62167219200000000001n), timeText(253402300800123456789n, 3), exactText(-5n), rangeText(0n, 1500000000n),
+            rangeText(253402300800123456789n, 253402300800123456790n)])""")
+        self.assertEqual(found, ["-62167219200.000000001 s", "253402300800.123456789 s", "1969-12-31 23:59:59.999999995",
+                                 "1970-01-01 00:00:00.000 to 00:00:01.500", "253402300800.123456789 s to 253402300800.123456790 s"])
+
+    def test_a_rule_that_decides_has_a_packet_to_show(self):
+        self.open(FILES.page("few", 0, FILES.write("hour.rules", made.RULES), FILES.write("hour.pcap", made.capture(2000)), "--packets", "300"))
+        rows = self.browser.evaluate("document.querySelectorAll('.row:not(.head):not(.idle):not(.dead)').length")
+        self.assertGreater(rows, 3)
+        for at in range(rows):
+            self.tab("rules")
+            self.type("rows", "used")
+            hits = self.browser.evaluate(f"document.querySelector('.row[aria-rowindex=\"{at + 2}\"]').innerText")
+            self.click(at + 1)
+            self.browser.evaluate("[...document.querySelectorAll('#side:not([hidden]) button')].find(it => it.textContent === 'Show its packets')?.click()")
+            told = self.browser.evaluate("document.querySelector('.tools [role=status]').textContent")
+            shown, held, total = re.fullmatch(r"(\S+) of the (\S+) packets that are in this file; in the captures there are (\S+)",
+                                              told).groups()
+            self.assertGreater(int(shown.replace(",", "")), 0)
+            self.assertIn(total, re.split(r"\s+", hits))
 
     def test_a_million_rows(self):
         server = self.serve()

@@ -1,8 +1,8 @@
 # SPDX-License-Identifier: BSD-3-Clause
 """The packets of a report: which entries of each list decide them, when they came, and the keys of those that are held.
 
-Packets of one kind that the same entries decide have one outcome. Outcomes count all packets. Packets are held with
-their keys up to a limit; above it the first ones of each outcome are.
+Packets of one kind that the same entries decide have one outcome. Outcomes count all packets. So many of the first
+packets are held with their keys as are asked for, and after them some of each outcome that has fewer.
 """
 import array
 import sys
@@ -12,7 +12,8 @@ from aclc_tools import answers, capture, confirmed, keys
 from aclc_tools.program import leave
 
 KINDS = {"ip4": 4, "ip6": 6, "other": 0, "short": 1}
-FIRST = 100
+# How many packets of each outcome are held at least, if there are so many.
+FIRST = 10
 MOST_BUCKETS = 512
 IP4_SIZE = 13
 # The columns of held packets in their order, and the type of each.
@@ -63,8 +64,10 @@ class Buckets:
             self.counts, place = wider, place // 2
 
     def rows(self):
-        """Each part's start from the first packet on, an outcome, and a count."""
-        return [[place * self.width, outcome, count] for (place, outcome), count in sorted(self.counts.items())]
+        """Each part's start, an outcome, and a count."""
+        start = self.start or 0
+        return [[str(start + place * self.width), outcome, count]
+                for (place, outcome), count in sorted(self.counts.items())]
 
 
 class Held:
@@ -77,7 +80,7 @@ class Held:
         self.places = [[-1, *(own[listed.entry(rule)] for rule in listed.rules)] for own, listed in zip(places, lists)]
         # The outcomes in their order, and by what the program answers.
         self.outcomes, self.known = {}, {}
-        self.captures, self.count, self.all_held = [], 0, True
+        self.captures, self.count = [], 0
         self.columns = {name: array.array(code) for name, code in COLUMNS.items()}
         self.key_bytes, self.key_places = bytearray(), {}
         self.buckets, self.confirmed = Buckets(), confirmed.Confirmed(room)
@@ -136,9 +139,7 @@ class Held:
         outcome.add(record.time)
         self.count += 1
         self.buckets.add(record.time, outcome.place)
-        if self.all_held and self.count > self.most:
-            self.thin_out()
-        if self.all_held or outcome.held < FIRST and len(self.columns["number"]) < self.most:
+        if self.count <= self.most or outcome.held < FIRST:
             self.hold(name, at, found[0][0], outcome, record)
 
     def outcome_of(self, name, number, found, time):
@@ -185,31 +186,18 @@ class Held:
             self.key_bytes += content
         return place
 
-    def thin_out(self):
-        """Keeps the first packets of each outcome alone."""
-        self.all_held = False
-        seen, kept = [0] * len(self.outcomes), []
-        for place, outcome in enumerate(self.columns["outcome"]):
-            seen[outcome] += 1
-            if seen[outcome] <= FIRST:
-                kept.append(place)
-        for name, column in self.columns.items():
-            self.columns[name] = array.array(column.typecode, (column[place] for place in kept))
-        for outcome in self.outcomes.values():
-            outcome.held = min(outcome.held, FIRST)
-
     def told(self):
         """What a report says of them, and the columns with their names and types."""
         outcomes = list(self.outcomes.values())
-        start = min((it.first for it in outcomes), default=0)
         decides = array.array("i", (it for outcome in outcomes for it in outcome.decides))
-        times = array.array("d", (float(time - start) for time in self.columns["time"]))
-        columns = {**self.columns, "time": times, "decides": decides}
-        shift = (self.buckets.start or 0) - start
-        told = {"count": self.count, "held": len(self.columns["number"]), "allHeld": self.all_held, "start": str(start),
-                "confirmed": self.confirmed.count, "first": FIRST, "width": self.buckets.width,
-                "buckets": [] if self.all_held else [[at + shift, *rest] for at, *rest in self.buckets.rows()],
-                "outcomes": [[it.kind, it.count, it.first - start, it.last - start] for it in outcomes]}
+        columns = {**self.columns, "decides": decides}
+        held = len(self.columns["number"])
+        # Times are numbers of nanoseconds since 1970. JSON's numbers have too few digits for them.
+        told = {"count": self.count, "held": held, "allHeld": held == self.count, "confirmed": self.confirmed.count,
+                "most": self.most, "first": FIRST, "start": str(min((it.first for it in outcomes), default=0)),
+                "width": str(self.buckets.width),
+                "buckets": [] if held == self.count else self.buckets.rows(),
+                "outcomes": [[it.kind, it.count, str(it.first), str(it.last)] for it in outcomes]}
         parts = [(name, column.typecode, little(column)) for name, column in columns.items()]
         return told, [*parts, ("keys", "B", bytes(self.key_bytes))]
 

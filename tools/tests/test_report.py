@@ -25,7 +25,7 @@ import made
 
 OFFICE, EDITED, PCAP = EXAMPLES / "office.rules", EXAMPLES / "edited.rules", EXAMPLES / "office.pcap"
 GATEWAY = DATA / "gateway.iptables-save"
-TYPES = {"B": "B", "H": "H", "I": "I", "i": "i", "d": "d"}
+TYPES = {"B": "B", "H": "H", "I": "I", "i": "i", "q": "q"}
 # A program that answers as the built one, but for what `sed` makes of its lines.
 OTHER = "#!/bin/bash\nset -o pipefail\n'{}' \"$@\" | sed '{}'\n"
 
@@ -128,7 +128,14 @@ class Told(Room):
         sent, rules = self.write("hour.pcap", made.capture(50)), self.write("hour.rules", made.RULES)
         _, _, told, columns = self.report(rules, sent)
         times = [record.time for record in capture.records_with_times(sent.read_bytes())]
-        self.assertEqual([int(told["packets"]["start"]) + int(it) for it in columns["time"]], times)
+        self.assertEqual(list(columns["time"]), times)
+        far = [1, 1_764_000_000_123_456_789, (1 << 32) * 10 ** 9 - 1]
+        _, _, told, columns = self.report(rules, self.write("far.pcap", made.steady(far)))
+        self.assertEqual(list(columns["time"]), far)
+        self.assertEqual(sorted(int(it[2]) for it in told["packets"]["outcomes"])[0], far[0])
+        self.assertEqual(max(int(it[3]) for it in told["packets"]["outcomes"]), far[-1])
+        sent = self.write("hour.pcap", made.capture(50))
+        _, _, told, columns = self.report(rules, sent)
         self.assertEqual([told["packets"]["count"], told["packets"]["confirmed"]], [50, 50])
 
     def test_above_the_limit_all_are_counted_and_the_first_are_held(self):
@@ -138,8 +145,14 @@ class Told(Room):
         self.assertEqual((whole["packets"]["allHeld"], told["packets"]["allHeld"]), (True, False))
         self.assertEqual(hits_of(told, columns), hits_of(whole, all_columns))
         self.assertEqual(told["packets"]["count"], 300)
-        self.assertLessEqual(len(columns["number"]), 20)
+        self.assertEqual(list(columns["number"])[:20], list(range(1, 21)))
         self.assertEqual(list(columns["number"]), sorted(columns["number"]))
+        outcomes = told["packets"]["outcomes"]
+        seen = [columns["outcome"].count(it) for it in range(len(outcomes))]
+        self.assertTrue(all(its >= min(held.FIRST, total) for its, (_, total, *_) in zip(seen, outcomes)), (seen, outcomes))
+        self.assertLessEqual(len(columns["number"]), 20 + held.FIRST * len(outcomes))
+        one_more = self.report(rules, sent, "--packets", "299")[3]
+        self.assertEqual(list(one_more["number"])[:299], list(range(1, 300)))
         self.assertEqual(sum(count for *_, count in told["packets"]["buckets"]), 300)
         place = {number: at for at, number in enumerate(all_columns["number"])}
         for name in ("time", "kind"):
