@@ -2,8 +2,8 @@
 // What the page shows of files that were chosen, made of the module's answers: the same that aclc report puts into a page.
 import { ROW } from './engine.js';
 import { acceptedList, compareData, listData, Refused } from './asked.js';
-import { timesOf } from './times.js';
-import { sizeText } from './text.js';
+import { passedOver, timesOf } from './times.js';
+import { many, shown, sizeText } from './text.js';
 
 const KINDS = { ip4: 4, ip6: 6, other: 0, short: 1 };
 // The exit codes of a capture that is faulty, and of memory that is too small.
@@ -20,9 +20,9 @@ async function checksumOf(bytes) {
 // A file that was chosen, with its bytes.
 async function read(file) {
   try {
-    return { name: file.name, bytes: new Uint8Array(await file.arrayBuffer()) };
+    return { name: shown(file.name), bytes: new Uint8Array(await file.arrayBuffer()) };
   } catch (fault) {
-    throw new Error(`${file.name} can’t be read: ${fault.message}`);
+    throw new Error(`${shown(file.name)} can’t be read: ${fault.message}`);
   }
 }
 
@@ -124,6 +124,8 @@ function addCapture(engine, columns, place, file, told, asked) {
   if (first.code) told.refusals.push(new Refused('capture', name, first).told);
   const texts = runs.map(([copy]) => answersIn(copy.out));
   const rows = engine.records(bytes, texts[0].length + 1);
+  const passed = passedOver(bytes);
+  if (passed) told.notes.push(`${name}: ${many(passed, 'packet')} passed over, in simple or obsolete packet blocks: no rule was asked`);
   const { times, why } = timesOf(bytes, rows.count);
   if (!times && rows.count) told.notes.push(`${name}: its times aren’t shown: ${why}`);
   columns.add(place, texts, rows, times, runs.map(([, original]) => answersIn(original.out)));
@@ -138,7 +140,7 @@ export async function assemble(engine, { list, old, captures, maxWords }, made, 
   const lists = [];
   try {
     for (const [role, chosen] of roles) {
-      progress(`Reading ${chosen.name}`);
+      progress(`Reading ${shown(chosen.name)}`);
       const file = await read(chosen);
       told.files.push(await fileData(role, file));
       lists.push(acceptedList(engine, role, file, asked));
@@ -155,7 +157,7 @@ export async function assemble(engine, { list, old, captures, maxWords }, made, 
     if (refused) throw refused.refused;
     const columns = new Columns(lists, count);
     for (const [place, chosen] of captures.entries()) {
-      const which = `${chosen.name}, capture ${place + 1} of ${captures.length}`;
+      const which = `${shown(chosen.name)}, capture ${place + 1} of ${captures.length}`;
       progress(`Reading ${which}`);
       const file = await read(chosen);
       progress(`Asking about ${which}`);

@@ -12,6 +12,8 @@
 //
 // An entry is a line of a list. Where a place is -1, no rule decides.
 
+import { shown } from './text.js';
+
 const ARRAYS = { B: Uint8Array, H: Uint16Array, I: Uint32Array, i: Int32Array, q: BigInt64Array };
 
 const bytesOf = (base64) => Uint8Array.from(atob(base64), (it) => it.charCodeAt(0));
@@ -33,7 +35,15 @@ export function unpacked(content) {
   return reportOf(told, columns);
 }
 
-// A report of what is told and the columns. It has packets if a capture has one that is told.
+// The same value with each text in it as it can be shown.
+function allShown(value) {
+  if (typeof value === 'string') return shown(value);
+  if (Array.isArray(value)) return value.map(allShown);
+  if (!value || typeof value !== 'object') return value;
+  return Object.fromEntries(Object.entries(value).map(([name, it]) => [name, allShown(it)]));
+}
+
+// A report of what is told and the columns. Names and texts of files are as they can be shown. It has packets if a capture has one that is told.
 export function reportOf(told, columns) {
   const hasPackets = told.packets?.count && told.files.some((it) => it.role === 'capture');
   return new Report(told, hasPackets ? new Packets(told.packets, columns, told) : null);
@@ -41,8 +51,11 @@ export function reportOf(told, columns) {
 
 export class Report {
   constructor(told, packets) {
-    Object.assign(this, told);
-    this.packets = packets;
+    const { files, refusals, notes, lists, compare } = told;
+    Object.assign(this, told, { files: allShown(files), refusals: allShown(refusals), notes: allShown(notes), packets });
+    this.compare = allShown(compare);
+    this.lists = lists.map((it) => ({ ...it, name: shown(it.name), notLooked: allShown(it.notLooked),
+      entries: it.entries.map((entry) => ({ ...entry, place: shown(entry.place), text: shown(entry.text) })) }));
     this.list = this.lists[this.lists.length - 1] ?? null;
     this.old = this.lists.length > 1 ? this.lists[0] : null;
   }

@@ -113,6 +113,7 @@ class Page {
       'aria-selected': it === view ? 'true' : 'false', tabindex: it === view ? 0 : -1, onclick: () => this.choose(it.name) }, it.title)));
     $('view').setAttribute('aria-labelledby', `tab-${view.name}`);
     $('view').className = view.name;
+    this.live?.showWork();
     $('view').replaceChildren(...view.show().flat(2).filter(Boolean));
   }
 

@@ -52,8 +52,9 @@ function columnsOf(page) {
 // The entries that decide packets, the most first.
 function entryChoices(page) {
   const { list, packets } = page.report;
-  const hits = [...page.hits(packets.lists - 1)].sort((one, other) => other[1].total - one[1].total).slice(0, MOST_CHOICES);
-  return hits.map(([place, { total }]) => {
+  const all = [...page.hits(packets.lists - 1)].sort((one, other) => other[1].total - one[1].total);
+  const chosen = all.filter(([place], at) => at < MOST_CHOICES || String(place) === page.filter.entry);
+  return chosen.map(([place, { total }]) => {
     const text = place < 0 ? 'no rule matches' : `${list.entries[place].place}: ${list.entries[place].text}`;
     return make('option', { value: place }, `${text.slice(0, 80)} (${count(total)})`);
   });
@@ -62,7 +63,8 @@ function entryChoices(page) {
 function answerChoices(page) {
   const { list, packets } = page.report;
   const found = new Set([...page.hits(packets.lists - 1).keys()].map((place) => page.report.answerText(list, place)));
-  return [...found].sort().slice(0, MOST_CHOICES).map((it) => make('option', { value: it }, it));
+  const chosen = [...found].sort().filter((it, at) => at < MOST_CHOICES || it === page.filter.answer);
+  return chosen.map((it) => make('option', { value: it }, it));
 }
 
 function labelled(text, id, input) {

@@ -2,6 +2,8 @@
 // The lines of a rule file that the program has accepted, as the page shows them. The program reads lists itself. What the
 // page reads here is compared with its answers.
 
+import { shown } from './text.js';
+
 const ATTRIBUTE = /[ \t]+(pri|cat|data)=(\S+)/g;
 const MOST_PRIORITY = 536870911;
 
@@ -16,10 +18,6 @@ function textOf(bytes) {
     return shown(Array.from(bytes, (it) => (it < 128 ? String.fromCharCode(it) : `\\x${it.toString(16)}`)).join(''));
   }
 }
-
-// A text without what turns its direction or can't be seen.
-const shown = (text) => text.replace(/[\u0000-\u0008\u000b-\u001f\u007f-\u009f\u00ad\u061c\u200b-\u200f\u2028-\u202e\u2060-\u206f\ufeff]/g,
-  (it) => `\\u${it.charCodeAt(0).toString(16).padStart(4, '0')}`);
 
 // The lines of a file, each as its bytes without its end.
 export function linesOf(bytes) {

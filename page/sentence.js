@@ -27,7 +27,7 @@ function ofNoPackets(page) {
   if (!page.captures.length) return [];
   const { refusals } = page.report;
   const refused = refusals.filter((it) => it.role === 'capture');
-  if (!refused.length) return [refusals.length ? 'No packet was looked at: the list is refused.' : 'The capture has no packets.'];
+  if (!refused.length) return [refusals.length ? 'No packet was looked at: the list is refused.' : 'The capture has no packets that are read.'];
   const names = refused.slice(0, MOST_NAMED).map((it) => it.file).join(', ');
   const more = refused.length > MOST_NAMED ? ` and ${count(refused.length - MOST_NAMED)} more` : '';
   return [`No packet was looked at: ${names}${more} ${verb(refused.length, 'is', 'are')} refused at the first record.`];

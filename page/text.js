@@ -14,6 +14,11 @@ export function make(name, attributes = {}, ...children) {
   return it;
 }
 
+// A text without what turns its direction or can't be seen, but for TABs and ends of lines.
+export const shown = (text) => text.replace(
+  /[\u0000-\u0008\u000b-\u001f\u007f-\u009f\u00ad\u061c\u200b-\u200f\u2028-\u202e\u2060-\u206f\ufeff]/g,
+  (it) => `\\u${it.charCodeAt(0).toString(16).padStart(4, '0')}`);
+
 const GROUPED = new Intl.NumberFormat('en-GB');
 export const count = (number) => GROUPED.format(number);
 

@@ -57,6 +57,23 @@ function ofPcapng(view, most) {
 }
 
 const MOST_TIME = 1n << 63n;
+// Blocks of packets that the program doesn't read: those of the obsolete form, and simple packets.
+const PASSED_OVER = [2, 3];
+
+// How many packets of a capture stand in blocks that aren't read.
+export function passedOver(capture) {
+  const view = new DataView(capture.buffer, capture.byteOffset, capture.byteLength);
+  let [little, count] = [false, 0];
+  if (view.byteLength < 12 || view.getUint32(0) !== SECTION) return 0;
+  for (let at = 0; at + 12 <= view.byteLength;) {
+    if (view.getUint32(at) === SECTION) little = view.getUint32(at + 8) !== 0x1a2b3c4d;
+    const [kind, total] = [view.getUint32(at, little), view.getUint32(at + 4, little)];
+    if (total < 12 || total % 4 || at + total > view.byteLength) break;
+    if (PASSED_OVER.includes(kind)) count++;
+    at += total;
+  }
+  return count;
+}
 
 // The times of so many records, or why they aren't told: the page sees another number of records, or one without a date.
 export function timesOf(capture, count) {

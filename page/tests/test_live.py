@@ -138,6 +138,74 @@ class Live(Shown):
         self.begin()
         self.assertIn("large.pcap has 1335.1 MiB, and a page has room for some", self.until_told("aclc report"))
 
+    def test_a_file_that_was_chosen_can_be_taken_back(self):
+        self.choose(list=OFFICE, old=EDITED)
+        self.assertIn("Chosen: edited.rules", self.browser.evaluate(VIEW))
+        self.browser.evaluate("document.getElementById('back-old').click()")
+        self.assertNotIn("edited.rules", self.browser.evaluate(VIEW))
+        self.end()
+        self.assertTrue(self.browser.evaluate("document.getElementById('tab-lists') === null"))
+
+    def drop(self, target, **files):
+        """Drops files of these names on an element."""
+        parts = "; ".join(f"dt.items.add(new File([Uint8Array.from({[*path.read_bytes()]})], {name!r}))" for name, path in files.items())
+        self.browser.evaluate(f"""(() => {{ const dt = new DataTransfer(); {parts};
+            document.querySelector({target!r}).dispatchEvent(new DragEvent('drop', {{ dataTransfer: dt, bubbles: true, cancelable: true }}));
+        }})()""")
+
+    def test_files_that_are_dropped_are_taken(self):
+        """A capture is known by its first bytes; on a card a file has the card's role."""
+        self.choose()
+        self.drop("body", rules=OFFICE, sent=EXAMPLES / "office.pcap", more=EXAMPLES / "mixed.pcapng")
+        self.browser.until("document.querySelectorAll('.chosen').length === 2", "what was dropped")
+        self.drop("[data-role=old] p", before=EDITED)
+        self.browser.until("document.querySelectorAll('.chosen').length === 3", "what was dropped")
+        chosen = self.browser.evaluate("[...document.querySelectorAll('.chosen')].map(it => it.firstChild.data.trim())")
+        self.assertEqual(chosen, ["Chosen: rules", "Chosen: sent, more", "Chosen: before"])
+        self.end()
+        self.assertIn("What rules does with sent and more", self.browser.evaluate("document.title"))
+
+    def test_max_words_that_are_no_number_of_words_are_told(self):
+        self.choose(list=OFFICE)
+        for words in ("1.5", "0", "-3", "67108865", "1e3"):
+            self.type("words", words)
+            self.begin()
+            self.until_told("max-words is a whole number from 1 to 67108864.")
+            self.browser.evaluate("document.getElementById('told').textContent = ''")
+        self.type("words", "2097152")
+        self.end()
+
+    def test_a_second_run_is_seen_from_other_views(self):
+        many = FILES.write("many.pcap", made.capture(50_000, hosts=4))
+        self.choose(list=OFFICE)
+        self.end()
+        self.tab("files")
+        self.browser.choose_files("#file-captures", many)
+        self.assertTrue(self.browser.evaluate("document.getElementById('work').hidden"))
+        self.begin()
+        self.browser.evaluate("document.getElementById('tab-rules').click()")
+        self.browser.until("!document.getElementById('work').hidden && document.getElementById('work').innerText.includes('Stop')", "the work")
+        self.browser.evaluate("document.querySelector('#work button').click()")
+        self.assertEqual(self.browser.evaluate("[document.getElementById('work').hidden, document.getElementById('said').textContent]"),
+                         [True, "Stopped"])
+
+    def test_what_turns_the_direction_of_writing_is_escaped(self):
+        for role, name in (("list", "a\u202egpj.rules"), ("captures", "b\u2066.pcap")):
+            files = {"list": OFFICE, "captures": EXAMPLES / "office.pcap"}
+            files[role] = FILES.write(name, files[role].read_bytes())
+            self.choose(**files)
+            self.end()
+            for view in ("files", "rules", "about"):
+                text = self.tab(view) + self.browser.evaluate("document.title + document.getElementById('head').innerText")
+                self.assertNotRegex(text, "[\u202e\u2066]")
+                self.assertIn("\\u202e" if role == "list" else "\\u2066", text)
+
+    def test_packets_that_are_passed_over_are_told(self):
+        sent = FILES.write("simple.pcapng", made.with_simple_packets((EXAMPLES / "mixed.pcapng").read_bytes(), 3))
+        self.choose(list=OFFICE, captures=sent)
+        self.end()
+        self.assertIn("simple.pcapng: 3 packets passed over", self.tab("refusals"))
+
     def test_without_a_list_one_is_asked_for(self):
         self.choose()
         self.begin()

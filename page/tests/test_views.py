@@ -272,6 +272,25 @@ class Views(Looks):
             self.assertGreater(int(shown.replace(",", "")), 0)
             self.assertIn(total, re.split(r"\s+", hits))
 
+    def test_what_turns_the_direction_of_writing_is_escaped(self):
+        rules = FILES.write("a\u202egpj.rules", OFFICE.read_bytes())
+        self.open(FILES.page("turned", 0, rules, FILES.write("b\u2066.pcap", (EXAMPLES / "office.pcap").read_bytes())))
+        for name in ("rules", "packets", "about"):
+            text = self.tab(name) + self.browser.evaluate("document.title + document.getElementById('head').innerText")
+            self.assertNotRegex(text, "[\u202e\u2066]")
+            self.assertIn("\\u202e", text)
+
+    def test_the_filter_by_rule_names_the_rule_beyond_those_that_decide_most(self):
+        rules = FILES.write("many.rules", "".join(
+            f"@0.0.0.0/0 0.0.0.0/0 0 : 65535 {port} : {port} 6/0xFF data=1\n" for port in range(2100)))
+        sent = FILES.write("ports.pcap", made.steady([made.START * 10 ** 9] * 2100, ports=range(2100)))
+        self.open(FILES.page("many_rules", 0, rules, sent))
+        self.browser.evaluate("document.querySelector('.table').focus()")
+        self.browser.press("End", "Enter")
+        self.browser.evaluate("[...document.querySelectorAll('#side button')].find(it => it.textContent === 'Show its packets').click()")
+        self.assertIn("line 2100: ", self.browser.evaluate("document.getElementById('by-entry').selectedOptions[0]?.text"))
+        self.assertEqual(len(self.rows()), 1)
+
     def test_a_million_rows(self):
         server = self.serve()
         rows = self.browser.evaluate("""(async () => {

@@ -7,6 +7,8 @@ from .refusal import LINKS, MOST_CAPTURED, Fault, Record, link_sentence
 
 SECTION = b"\n\r\r\n"
 SECTION_TYPE, INTERFACE, PACKET = 0x0A0D0D0A, 1, 6
+# Blocks of packets that aren't read: those of the obsolete form, and simple packets, which name no interface.
+PASSED_OVER = (2, 3)
 # How many bytes a block has at least, with its type and its two lengths.
 LEAST = {SECTION_TYPE: 28, INTERFACE: 20, PACKET: 32}
 MOST_INTERFACES = 1024
@@ -103,6 +105,21 @@ def records(content):
         if record is not None:
             count += 1
             yield record
+
+
+def passed_over(content):
+    """How many packets stand in blocks that aren't read: simple packets, and those of the obsolete form."""
+    order, at, count = ">", 0, 0
+    while len(content) - at >= 12:
+        kind, total = TWO[order](content, at)
+        if kind == SECTION_TYPE:
+            order = section_order(content, at) or order
+            kind, total = TWO[order](content, at)
+        if total < 12 or total % 4 or total > len(content) - at:
+            break
+        count += kind in PASSED_OVER
+        at += total
+    return count
 
 
 def block(kind, body):

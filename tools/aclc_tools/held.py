@@ -8,8 +8,8 @@ import array
 import sys
 from collections import defaultdict
 
-from aclc_tools import answers, capture, confirmed, keys
-from aclc_tools.program import leave
+from aclc_tools import answers, blocks, capture, confirmed, keys
+from aclc_tools.program import leave, note
 
 KINDS = {"ip4": 4, "ip6": 6, "other": 0, "short": 1}
 # How many packets of each outcome are held at least, if there are so many.
@@ -94,7 +94,9 @@ class Held:
                 for listed, copy in zip(self.lists, self.copies)]
         own = len(self.captures)
         self.captures.append(told)
-        reader = capture.records_with_times(answers.content_of(path))
+        content = answers.content_of(path)
+        reader = capture.records_with_times(content)
+        tell_passed_over(name, content)
         try:
             for number, found in enumerate(zip(*runs), 1):
                 if found[0][0] == "packets":
@@ -200,6 +202,13 @@ class Held:
                 "outcomes": [[it.kind, it.count, str(it.first), str(it.last)] for it in outcomes]}
         parts = [(name, column.typecode, little(column)) for name, column in columns.items()]
         return told, [*parts, ("keys", "B", bytes(self.key_bytes))]
+
+
+def tell_passed_over(name, content):
+    """Says how many packets of a capture no rule is asked about, since their blocks aren't read."""
+    count = blocks.passed_over(content) if content[:4] == blocks.SECTION else 0
+    if count:
+        note(f"{name}: {count} packet{'s' * (count > 1)} passed over, in simple or obsolete packet blocks: no rule was asked")
 
 
 def checksum_of(path):

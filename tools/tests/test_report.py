@@ -138,6 +138,13 @@ class Told(Room):
         _, _, told, columns = self.report(rules, sent)
         self.assertEqual([told["packets"]["count"], told["packets"]["confirmed"]], [50, 50])
 
+    def test_packets_that_are_passed_over_are_told(self):
+        sent = self.write("simple.pcapng", made.with_simple_packets((EXAMPLES / "mixed.pcapng").read_bytes(), 3))
+        code, said, told, _ = self.report(EXAMPLES / "mixed.rules", sent)
+        self.assertEqual((code, told["packets"]["count"]), (0, 8))
+        self.assertIn("simple.pcapng: 3 packets passed over, in simple or obsolete packet blocks: no rule was asked", said)
+        self.assertIn("3 packets passed over", "\n".join(told["notes"]))
+
     def test_above_the_limit_all_are_counted_and_the_first_are_held(self):
         sent, rules = self.write("hour.pcap", made.capture(300)), self.write("hour.rules", made.RULES)
         _, _, whole, all_columns = self.report(rules, sent)
