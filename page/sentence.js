@@ -8,15 +8,17 @@ const verb = (number, one, more) => (number === 1 ? one : more);
 // How the packets were decided, in the category that is chosen.
 function ofPackets(page, lines) {
   const { list, packets } = page.report;
-  let [used, decided, byEnd] = [0, 0, 0];
+  let [used, decided, byEnd, open] = [0, 0, 0, 0];
   for (const [place, { total }] of page.hits(packets.lists - 1)) {
     if (place < 0) continue;
-    if (list.entries[place].end) byEnd += total;
+    if (list.entries[place].leftOut) open += total;
+    else if (list.entries[place].end) byEnd += total;
     else [used, decided] = [used + 1, decided + total];
   }
   const parts = [`${count(decided)} decided by ${count(used)} of ${many(lines, list.what)}`];
   if (byEnd) parts.push(`${count(byEnd)} by the end of the list`);
-  parts.push(`${count(page.keyed - decided - byEnd)} by none`);
+  parts.push(`${count(page.keyed - decided - byEnd - open)} by none`);
+  if (open) parts.push(`${count(open)} not decided, since lines were left out`);
   const keyless = packets.total - page.keyed;
   if (keyless) parts.push(`${count(keyless)} not asked about: no IP packet, or cut`);
   return `${many(packets.total, 'packet')}: ${parts.join(', ')}.`;

@@ -25,12 +25,12 @@ def steady(times, ports=(443, 80, 22)):
     return b"".join(parts)
 
 
-def with_simple_packets(content, count):
-    """A pcapng capture with so many simple packets at its end."""
+def simple_packets(count):
+    """So many simple packets of pcapng, little-endian."""
     frame = packet(6, bytes([10, 0, 0, 1]), bytes([192, 0, 2, 1]), (1024, 443))
-    frame += bytes(-len(frame) % 4)
-    order, length = "<" if content[8:12] == b"\x4d\x3c\x2b\x1a" else ">", len(frame) + 16
-    return content + count * (struct.pack(order + "III", 3, length, len(frame)) + frame + struct.pack(order + "I", length))
+    body = frame + bytes(-len(frame) % 4)
+    length = len(body) + 16
+    return count * (struct.pack("<III", 3, length, len(frame)) + body + struct.pack("<I", length))
 
 
 def capture(count, seed=1, hosts=40):

@@ -10,6 +10,7 @@ from pathlib import Path
 
 import browsers
 import made
+from aclc_tools import blocks
 from shown import EDITED, EXAMPLES, FILES, LEAD, OFFICE, VIEW, Shown
 from tool import tool
 
@@ -201,7 +202,7 @@ class Live(Shown):
                 self.assertIn("\\u202e" if role == "list" else "\\u2066", text)
 
     def test_packets_that_are_passed_over_are_told(self):
-        sent = FILES.write("simple.pcapng", made.with_simple_packets((EXAMPLES / "mixed.pcapng").read_bytes(), 3))
+        sent = FILES.write("simple.pcapng", blocks.write([bytes(60)]) + made.simple_packets(3))
         self.choose(list=OFFICE, captures=sent)
         self.end()
         self.assertIn("simple.pcapng: 3 packets passed over", self.tab("refusals"))
