@@ -83,16 +83,6 @@ RULES = [
     ("priority range", "a priority above 536870911", LINE + b" pri=600000000", "at most 536870911"),
 ]
 
-# The first text, the lines of a list of iptables, and what aclc-lists says of it.
-HEAD = "*filter\n:INPUT DROP [0:0]\n"
-LISTS = [
-    ("`another table than filter`", "*nat\nCOMMIT\n" + HEAD, "line 1: another table than filter"),
-    ("`state not assumed`", HEAD + "-A INPUT -m conntrack --ctstate ESTABLISHED -j ACCEPT\nCOMMIT\n",
-     "line 3: state not assumed"),
-    ("`matches what no rule file says`", HEAD + "-A INPUT -m limit --limit 5/sec -j ACCEPT\nCOMMIT\n",
-     "line 3: matches what no rule file says"),
-]
-
 FRAME = capture.write([bytes(60)])
 BLOCKS = blocks.write([bytes(60)])
 CAPTURES = [

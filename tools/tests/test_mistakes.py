@@ -8,6 +8,7 @@ import tempfile
 import unittest
 from pathlib import Path
 
+import list_mistakes
 import mistakes
 from aclc_tools import blocks, capture, keys, program
 from aclc_tools.program import TOP, built_program, run
@@ -32,7 +33,7 @@ def tried():
              for it in mistakes.RULES + mistakes.CAPTURES + mistakes.WORDS + mistakes.LARGE]
     kinds += [(kind, title) for kind, title, _ in mistakes.FILES] + [("read fault", mistakes.CLOSED)]
     alone = [it[1] for it in mistakes.IMAGES] + [it[0] for it in mistakes.REPLIES + mistakes.WARNED
-                                                 + mistakes.SURPRISES + mistakes.LISTS]
+                                                 + mistakes.SURPRISES] + list_mistakes.TITLES
     alone += [it[2] for it in mistakes.OTHERS if it[2]]
     alone += [mistakes.ALL_BAD, mistakes.LONG, mistakes.MANY, mistakes.MEMORY, mistakes.NAME, mistakes.STACK,
               mistakes.SCRIPT,
@@ -60,14 +61,24 @@ class Page(unittest.TestCase):
 
 
 class Lists(unittest.TestCase):
+    def test_each_message_of_the_program_of_lists_has_a_row(self):
+        source = (TOP / "crates" / "list_tool" / "src" / "message.rt").read_text(encoding="utf-8")
+        kinds = set(re.findall(r'(?:Kind|Fault)::\w+(?:\(\w+\))? => b"([^"]*)"', source))
+        page = (TOP / "docs" / "MISTAKES.md").read_text(encoding="utf-8")
+        part = page[page.index("## Lists: exit code 3"):page.index("## Captures: exit code 5")]
+        rows = {kind for row in re.findall(r"(?m)^- ((?:`[^`]+`, )*`[^`]+`): ", part) for kind in re.findall(r"`([^`]+)`", row)}
+        self.assertGreater(len(kinds), 70)
+        self.assertEqual(kinds - rows, set())
+
     @unittest.skipUnless(program.list_program(), "the program aclc-lists isn't built")
-    def test_lists_of_iptables(self):
-        for _, lines, said in mistakes.LISTS:
-            shown = lines.split("\n")[int(re.match(r"line (\d+)", said).group(1)) - 1]
-            done = subprocess.run([program.list_program(), "iptables", "/dev/stdin", "INPUT"],
+    def test_each_row_on_lists_is_what_the_program_says(self):
+        tried = [(form, *row) for form, rows in list_mistakes.FORMS.items() for row in rows]
+        tried += [("iptables", title, list_mistakes.of_hosts(count), said) for title, count, said in list_mistakes.LARGE]
+        for form, title, lines, said, *chain in tried:
+            done = subprocess.run([program.list_program(), form, "/dev/stdin", *(chain or ["INPUT"])],
                                   input=lines.encode(), stdout=subprocess.PIPE, stderr=subprocess.PIPE)
-            self.assertEqual((done.returncode, done.stdout, done.stderr.decode()),
-                             (3, b"", f"aclc-lists: list: {said}\n  {shown}\n"))
+            self.assertEqual((done.returncode, done.stdout, done.stderr.decode().split("\n")[0]),
+                             (3, b"", f"aclc-lists: list: {said}"), title)
 
 
 @BUILT
