@@ -88,6 +88,19 @@ def verdict(draw, rejecting, later):
     return [one] if draw.random() < 0.7 or "log" in one else [{"log": {"prefix": "x "}}, one]
 
 
+def unequal_port(statement):
+    """The port that a comparison says isn't one number, if it does."""
+    said = statement.get("match", {})
+    single = said.get("op") == "!=" and not isinstance(said["right"], (dict, list)) and said["right"] != "@ports"
+    return said["left"].get("payload", {}).get("field") if single else None
+
+
+def without_pairs(statements):
+    """Statements of which no two say of the two ports that they aren't one number: nft joins them."""
+    found = list(map(unequal_port, statements))
+    return [it for it, field in zip(statements, found) if field != "dport" or "sport" not in found]
+
+
 def expression(draw, family, later):
     """The statements of a rule."""
     network, transport = family if family != "inet" else draw.choice(["ip", "ip6"]), draw.choice(["tcp", "udp"])
@@ -96,6 +109,7 @@ def expression(draw, family, later):
         return [first(draw, family)] + verdict(draw, alone, later)
     found = [draw.choice([address, address, port, port, pair, other])(draw, network, transport)
              for _ in range(draw.randrange(3))]
+    found = without_pairs(found)
     if draw.random() < 0.2 and transport == "tcp":
         pairs = [[22, {"drop": None}], [{"range": [80, 90]}, {"accept": None}]]
         pairs += [[443, {"jump": {"target": draw.choice(later)}}]] if later else []

@@ -123,9 +123,9 @@ class Rules:
         transport = self.draw.choice(["tcp", "udp", "sctp"])
         kinds = [self.field, self.field, self.port, self.port, self.assumed, self.named, self.together]
         kinds += [self.other] * (self.table == "inet")
-        found = [self.draw.choice(kinds)(transport) for _ in range(self.draw.randrange(4))]
+        found = draws_nft.without_pairs([self.draw.choice(kinds)(transport) for _ in range(self.draw.randrange(4))])
         if not found and self.draw.random() < 0.3:
-            found, transport = self.any_ports(), "th"
+            found, transport = draws_nft.without_pairs(self.any_ports()), "th"
         if self.draw.random() < 0.05:
             source = draws_nft.payload(self.network, "saddr")
             return found + [{"set": {"op": "add", "elem": source, "set": "@seen"}}]

@@ -159,6 +159,7 @@ class Judge:
     def run(self, rule, key, fields):
         """The verdict of a rule for a packet, and the chain that it names."""
         verdict = None, None
+        require(not {"sport", "dport"} <= {self.other_port(it) for it in rule["expr"]}, "of both ports nft makes one")
         try:
             for statement in rule["expr"]:
                 require(verdict[0] is None, statement)
@@ -177,6 +178,15 @@ class Judge:
         except Missing:
             return None, None
         return verdict
+
+    def other_port(self, statement):
+        """The port that a statement says isn't one number."""
+        name, said = only(statement)
+        if name != "match" or said["op"] != "!=" or only(said["left"])[0] != "payload":
+            return None
+        right = said["right"]
+        several = isinstance(right, (dict, list)) or isinstance(right, str) and right.startswith("@")
+        return None if several else said["left"]["payload"].get("field")
 
     def can_answer(self, said, fields):
         """Whether a packet is one to which the answer of reject is sent."""
