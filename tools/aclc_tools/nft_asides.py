@@ -44,7 +44,7 @@ class Scan:
 
     def __init__(self, ruleset, base, families, assumption):
         self.ruleset, self.base, self.families, self.seen = ruleset, base, families, set()
-        self.comparing = Comparing(ruleset.sets_of(base["family"], base["table"]), assumption)
+        self.comparing = Comparing(ruleset.sets_of(base["family"], base["table"]), assumption, base)
 
     def asides(self):
         """What each of them does."""

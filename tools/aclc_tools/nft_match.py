@@ -10,17 +10,36 @@ PORTED = {"tcp": ((6, 6),), "udp": ((17, 17),), "sctp": ((132, 132),), "th": box
 NFPROTO = {"ipv4": 4, "ipv6": 6}
 ETHERTYPES = {"ip": 4, "ip6": 6}
 INTERFACES = {"iifname": "in", "iif": "in", "oifname": "out", "oif": "out"}
+# The hooks whose packets have an interface: where they have none, the kernel's versions say different things.
+HAVING = {"in": ("ingress", "prerouting", "input", "forward"), "out": ("forward", "output", "postrouting", "egress")}
+# At these hooks the kernel looks a packet's connection up, by this priority.
+TRACKING, TRACKED = -200, ("prerouting", "output")
 STATES = ("new", "established", "related", "invalid", "untracked")
 META_REASONS = {"mark": "a mark", "iiftype": "a type of interface", "skuid": "a user", "skgid": "a user",
                 "length": "a length",
                 "pkttype": "a type of frame", "hour": "a time", "day": "a time", "time": "a time"}
 
 
-class Comparing:
-    """Takes comparisons into a match: of a ruleset's sets, and with what is assumed."""
+def place_of(base):
+    """Where a base chain stands, in words."""
+    return f"at the hook {base['hook']} with the priority {base['prio']}"
 
-    def __init__(self, sets, assumption):
-        self.sets, self.assumption = sets, assumption
+
+def has_interface(base, key):
+    """Whether packets of a base chain, if there is one, have an interface."""
+    return not base or base["hook"] in HAVING[key]
+
+
+def has_state(base):
+    """Whether the state of their connections is known."""
+    return not base or not (base["hook"] == "ingress" or base["hook"] in TRACKED and base["prio"] <= TRACKING)
+
+
+class Comparing:
+    """Takes comparisons into a match: of a ruleset's sets, with what is assumed, of packets of a base chain."""
+
+    def __init__(self, sets, assumption, base=None):
+        self.sets, self.assumption, self.base = sets, assumption, base
 
     def take(self, match, left, operator, right):
         """One comparison."""
@@ -100,6 +119,8 @@ class Comparing:
         names = self.equal(operator, right, lambda it: it if isinstance(it, str) and "\\" not in it else None,
                            "name of an interface")
         given = self.assumption.interface(key)
+        if not has_interface(self.base, key):
+            raise CantSay(f"it compares an interface that packets don't have {place_of(self.base)}")
         if given is None:
             raise CantSay(f"it compares an interface, which only --assume {key}=NAME tells")
         met = any(given.startswith(it[:-1]) if it.endswith("*") else given == it for it in names)
@@ -110,6 +131,8 @@ class Comparing:
         if said["key"] != "state":
             raise CantSay(f"it compares {said['key']} of a connection, which no rule of aclc can")
         states = self.equal(operator, right, lambda it: it if it in STATES else None, "state of a connection")
+        if not has_state(self.base):
+            raise CantSay(f"it compares the state of a connection, which isn't known yet {place_of(self.base)}")
         if not self.assumption.state:
             raise CantSay("it compares state of a connection, which only --assume state=NAME tells")
         match.truth((self.assumption.state in states or OTHERS in states) != (operator == "!="))

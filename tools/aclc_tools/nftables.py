@@ -8,12 +8,17 @@ import json
 from aclc_tools import assume, nft_rule
 from aclc_tools.lists import ACCEPT, DROP, CantSay, Chain, Malformed, Read, Rule
 from aclc_tools.nft_asides import asides_of
-from aclc_tools.nft_match import Comparing
+from aclc_tools.nft_match import TRACKING, Comparing, has_interface
 from aclc_tools.nft_text import SHAPES, one_of, plain
 
 FAMILIES = {"ip": (4,), "ip6": (6,), "inet": (4, 6)}
 OTHER_FAMILIES = ("arp", "bridge", "netdev")
 POLICIES = {"accept": ACCEPT, "drop": DROP}
+# Base chains of each family: at which hooks there are such of a type (nft(8), "CHAINS").
+NETWORK = {"filter": ("prerouting", "input", "forward", "output", "postrouting"),
+           "nat": ("prerouting", "input", "output", "postrouting"), "route": ("output",)}
+TYPES = {"ip": NETWORK, "ip6": NETWORK, "inet": {**NETWORK, "filter": ("ingress", *NETWORK["filter"])},
+         "netdev": {"filter": ("ingress", "egress")}}
 # Objects that say nothing of packets by themselves.
 SILENT = ("metainfo", "flowtable", "counter", "quota", "limit", "ct helper", "ct timeout", "ct expectation", "secmark",
           "synproxy")
@@ -28,6 +33,15 @@ def unique(pairs):
     if len(found) != len(pairs):
         raise CantSay("an object of the JSON has a name twice")
     return found
+
+
+def there_is(chain):
+    """Whether a family has base chains of a type at a hook with a priority."""
+    priority = chain["prio"]
+    if isinstance(priority, bool) or not isinstance(priority, int) or not -2 ** 31 <= priority < 2 ** 31:
+        return False
+    hooks = TYPES[chain["family"]].get(chain["type"], ()) if isinstance(chain["type"], str) else ()
+    return chain["hook"] in hooks and (chain["type"] != "nat" or priority > TRACKING)
 
 
 class Ruleset:
@@ -76,6 +90,9 @@ class Ruleset:
             raise CantSay(f"the chain {' '.join(key)} stands twice")
         if not {"hook", "policy", "prio", "type"}.isdisjoint(said) and not {"hook", "prio", "type"} <= set(said):
             raise CantSay(f"the chain {' '.join(key)} has a hook, a type or a policy, and not what belongs to it")
+        if "hook" in said and key[0] in TYPES and not there_is(said):
+            raise CantSay(f"the chain {' '.join(key)} has a type, a hook and a priority of which there is no base chain",
+                          said["handle"])
         if said.get("policy", "accept") not in POLICIES:
             raise CantSay(f"the policy {plain(said['policy'])} isn't known", said["handle"])
         self.claim(said)
@@ -168,12 +185,26 @@ def checked(rule, chains, lenient):
     return rule._replace(reason=reason)
 
 
+def check_base(base, assumption):
+    """Refuses a base chain whose packets aren't those that are asked for."""
+    if base["type"] == "nat":
+        raise CantSay(f"the chain {base['name']} is of type nat, to which only the first packet of a connection comes",
+                      base["handle"])
+    for key in ("in", "out"):
+        if assumption.interface(key) is not None and not has_interface(base, key):
+            raise CantSay(f"--assume {key}={assumption.interface(key)}: packets at the hook {base['hook']} have no such"
+                          " interface", base["handle"])
+
+
 def read(text, options):
     """The chains of the table, the chain that is meant and its families, beside what other chains do."""
     ruleset, given = Ruleset(json.loads(text, object_pairs_hook=unique)["nftables"]), assume.of(options)
     family, table, name = chosen(ruleset, options)
     families = [it for it in FAMILIES[family] if options.family in (None, it)]
-    comparing = Comparing(ruleset.sets_of(family, table), given)
+    base = ruleset.chains[family, table, name] if "hook" in ruleset.chains[family, table, name] else None
+    if base:
+        check_base(base, given)
+    comparing = Comparing(ruleset.sets_of(family, table), given, base)
     own = {key[2]: said for key, said in ruleset.chains.items() if key[:2] == (family, table)}
     chains = {}
     for key, said in own.items():

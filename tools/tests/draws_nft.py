@@ -162,4 +162,4 @@ def draw(draw):
     if draw.random() < 0.3:
         file, chain, text = draw.choice(SHIPPED)
         return made(json.loads((DATA / file).read_text())["nftables"], chain, text)
-    return made(drawn_objects(draw, "input"), "input", draw.choice(ASSUMED))
+    return made(drawn_objects(draw, "forward"), "forward", draw.choice(ASSUMED))

@@ -138,13 +138,13 @@ class Rules:
 
 def objects(draw, network):
     """The objects of a drawn ruleset for packets of a family."""
-    table, handles, chains = draw.choice([network, "inet"]), iter(range(1, 100)), ["input", "one", "two"]
+    table, handles, chains = draw.choice([network, "inet"]), iter(range(1, 100)), ["forward", "one", "two"]
     rules, of = Rules(draw, network, table), {"family": table, "table": "t"}
     found = [{"metainfo": {"version": "1.0.6"}}, {"table": {"family": table, "name": "t", "handle": 1}}]
     found += [{draw.choice(walk_nft.SILENT): {**of, "name": "o", "handle": next(handles)}}] * (draw.random() < 0.5)
     comment = draw.choice([{}, {"comment": "x"}])
-    found.append({"chain": {**of, "name": "input", "handle": next(handles), **comment, "type": "filter",
-                            "hook": "input", "prio": 0, "policy": draw.choice(["accept", "drop"])}})
+    found.append({"chain": {**of, "name": "forward", "handle": next(handles), **comment, "type": "filter",
+                            "hook": "forward", "prio": 0, "policy": draw.choice(["accept", "drop"])}})
     found += [{"chain": {**of, "name": name, "handle": next(handles), **comment}} for name in chains[1:]]
     found += rules.sets(of, handles)
     return found + [{"rule": {**of, "chain": chain, "handle": next(handles),
@@ -158,12 +158,12 @@ def options(chain, assumed="", data="line", family=4):
 
 
 def draw(draw):
-    """A ruleset with the base chain input, and what is assumed."""
+    """A ruleset with the base chain forward, and what is assumed."""
     network = draw.choice(["ip", "ip6"])
     assumed = f"in=eth{draw.randrange(2)},out=lo,state={draw.choice(STATES)}"
     return Drawn([json.dumps(it) for it in objects(draw, network)], draws_nft.joined,
-                 options("input", assumed, family={"ip": 4, "ip6": 6}[network]),
-                 lambda text: walk_nft.Judge(text, "input", assumed_of(assumed)[0]),
+                 options("forward", assumed, family={"ip": 4, "ip6": 6}[network]),
+                 lambda text: walk_nft.Judge(text, "forward", assumed_of(assumed)[0]),
                  (walk_nft.Unlawful, KeyError, TypeError, AttributeError, ValueError))
 
 
@@ -174,8 +174,8 @@ def without(text, handle):
 
 
 def reached_rules(listed):
-    """The rules of some objects to which packets may come that begin in the chain input."""
-    rules, chains, before = [it for it in listed if "rule" in it], {"input"}, 0
+    """The rules of some objects to which packets may come that begin in the chain forward."""
+    rules, chains, before = [it for it in listed if "rule" in it], {"forward"}, 0
     while before < len(chains):
         before = len(chains)
         said = json.dumps([it for it in rules if it["rule"]["chain"] in chains])
