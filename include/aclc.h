@@ -25,9 +25,8 @@
  * NULL, AND ONE HANDLE TWICE
  *     A pointer that is null is answered by ACLC_NULL, before anything else is looked at. One that
  *     has a length may be null where the length is 0. aclc_free and aclc_table_free ignore null.
- *     A handle that is given twice in a call is refused. The functions at the end of this header
- *     see to both: the library's own take neither, and a program that calls those without this
- *     header has to keep it.
+ *     A handle that is given twice in a call is refused. The library's functions see to both, so a
+ *     program of another language that calls them without this header is answered likewise.
  *
  * WHAT ONLY THE CALLER CAN KEEP
  *     - Each pointer is aligned as its type asks for. A pointer with a length leads to so many
@@ -201,9 +200,9 @@ struct aclc_text {
 void aclc_error_text(aclc_code code, struct aclc_text *text);
 
 /*
- * aclc_strerror - the same as a string of C. It is a function of this header, over aclc_error_text.
+ * aclc_strerror - the same as a string of C. Since 1.2; in 1.1 it was a function of the header.
  */
-static inline const char *aclc_strerror(aclc_code code);
+const char *aclc_strerror(aclc_code code);
 
 /*
  * aclc_create - makes a context without rules and without a table.
@@ -490,8 +489,6 @@ aclc_code aclc_save(struct aclc_table *ip4, struct aclc_table *ip6, uint8_t *ima
  */
 aclc_code aclc_load(struct aclc_table *ip4, struct aclc_table *ip6, const uint8_t *image,
                     size_t image_len, uint64_t *place);
-
-#include "aclc_null.h"
 
 #ifdef __cplusplus
 }

@@ -23,13 +23,14 @@ while [ "$1" != -o ]; do shift; done
 cp "$KIT/made.a" "$2"
 echo 'logic=proved functions=1 target=x86_64'
 """
-SINCE_1_1 = {"aclc_classify_keys", "aclc_error_text", "aclc_table_classify_keys"}
-CALL = re.compile(r"^(aclc_code|uint32_t|void) (aclc_\w+)\(([^;]*)\);", re.M)
+SINCE = dict.fromkeys(("aclc_classify_keys", "aclc_error_text", "aclc_table_classify_keys"), "ACLC_1.1")
+SINCE["aclc_strerror"] = "ACLC_1.2"
+CALL = re.compile(r"^(aclc_code|uint32_t|void|const char) \*?(aclc_\w+)\(([^;]*)\);", re.M)
 
 
-def calls():
-    """The calls of aclc.h: type, name and parameters."""
-    text = re.sub(r"/\*.*?\*/", "", (TOP / "include" / "aclc.h").read_text(), flags=re.S)
+def calls(header="include/aclc.h"):
+    """The calls of a header: type, name and parameters."""
+    text = re.sub(r"/\*.*?\*/", "", (TOP / header).read_text(), flags=re.S)
     return CALL.findall(text)
 
 
@@ -46,12 +47,13 @@ def compile_c(source, *words):
 
 
 def make_archive(file, without=()):
-    """An archive whose calls answer 0, but for those that are left out."""
-    code = "#include <aclc.h>\n"
-    for kind, name, words in calls():
+    """What acl_c is built to: its calls answer 0, but for those that are left out."""
+    code = "#include <aclc_proved.h>\nuint32_t aclc_version(void) { return 0; }\n"
+    for kind, name, words in calls("library/aclc_proved.h"):
         if name not in without:
-            code += f"#undef {name}\n{kind} {name}({words}) {{ {'' if kind == 'void' else 'return 0;'} }}\n"
-    compile_c(code + "int hidden(void) { return 0; }\n", f"-I{TOP / 'include'}", "-c", "-o", file.with_suffix(".o"))
+            code += f"{kind} {name}({words}) {{ {'' if kind == 'void' else 'return 0;'} }}\n"
+    folders = [f"-I{TOP / name}" for name in ("include", "library")]
+    compile_c(code + "int hidden(void) { return 0; }\n", *folders, "-c", "-o", file.with_suffix(".o"))
     file.unlink(missing_ok=True)
     done(["ar", "rcs", file, file.with_suffix(".o")])
 
@@ -67,7 +69,7 @@ class Install(unittest.TestCase):
     def setUp(self):
         self.folder = Path(tempfile.mkdtemp())
         self.addCleanup(shutil.rmtree, self.folder)
-        for name in ("include", "compat", "packaging", "make"):
+        for name in ("include", "compat", "library", "packaging", "make"):
             shutil.copytree(TOP / name, self.folder / name)
         for name in ("HANDLES", "VERSION", "LICENSE"):
             shutil.copy(TOP / name, self.folder / name)
@@ -133,14 +135,27 @@ class Install(unittest.TestCase):
 
     def test_the_shared_library_exports_the_calls_of_its_header_alone(self):
         self.run_script("include/install", self.prefix)
-        names = {f"{name}@@{'ACLC_1.1' if name in SINCE_1_1 else 'ACLC_1'}" for _, name, _ in calls()}
+        names = {f"{name}@@{SINCE.get(name, 'ACLC_1')}" for _, name, _ in calls()}
         self.assertEqual(exported(self.prefix / "lib" / "libaclc.so.1"), names)
 
+    def test_the_loader_refuses_older_processors(self):
+        self.run_script("include/install", self.prefix)
+        program = self.folder / "program"
+        compile_c("int aclc_version(void);\nint main(void) { return aclc_version(); }\n", "-o", program,
+                  self.prefix / "lib" / "libaclc.so.1", f"-Wl,-rpath,{self.prefix / 'lib'}")
+        for file in (self.prefix / "lib" / "libaclc.so.1", program):
+            wanted = "x86-64-v2" in done(["readelf", "-n", file])[1]
+            self.assertEqual(wanted, file != program, file)
+        if shutil.which("qemu-x86_64"):
+            for processor, status in (("core2duo", 127), ("Nehalem", 0)):
+                code, said = done(["qemu-x86_64", "-cpu", processor, program])
+                self.assertEqual((code, "CPU ISA level is lower than required" in said), (status, status != 0), said)
+
     def test_an_archive_that_lacks_a_call_is_refused(self):
-        make_archive(self.kit / "made.a", without=["aclc_save"])
+        make_archive(self.kit / "made.a", without=["aclc_proved_save"])
         code, said = self.run_script("include/install", self.prefix)
         self.assertNotEqual(code, 0)
-        self.assertIn("aren't those of aclc.h", said)
+        self.assertIn("undefined reference to `aclc_proved_save'", said)
         self.assertEqual(self.files(), set())
 
     def test_a_wrong_use_is_refused(self):

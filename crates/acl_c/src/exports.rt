@@ -30,7 +30,7 @@ pub extern "C" fn aclc_version() -> u32
 
 /// Tells the text of an answer, and for a number that is none a text that says so.
 #[unsafe(no_mangle)]
-pub extern "C" fn aclc_error_text(code: u32, text: &mut Text)
+pub extern "C" fn aclc_proved_error_text(code: u32, text: &mut Text)
     ensures { text.new.bytes.now ≡ error_text code }
 {
     text.bytes = error_text(code);
@@ -38,7 +38,7 @@ pub extern "C" fn aclc_error_text(code: u32, text: &mut Text)
 
 /// Makes a context without rules and without a table.
 #[unsafe(no_mangle)]
-pub extern "C" fn aclc_create(
+pub extern "C" fn aclc_proved_create(
     alloc: Global,
     context: &mut Handle,
     fields: &[Field],
@@ -72,7 +72,7 @@ pub extern "C" fn aclc_create(
 
 /// Makes the table of the rules that the context holds, in place of the one before.
 #[unsafe(no_mangle)]
-pub extern "C" fn aclc_build(
+pub extern "C" fn aclc_proved_build(
     alloc: Global,
     context: &mut Handle,
     budget: u64,
@@ -95,7 +95,7 @@ pub extern "C" fn aclc_build(
 
 /// Adds rules after those that the context holds, all or none. The table stays.
 #[unsafe(no_mangle)]
-pub extern "C" fn aclc_add_rules(
+pub extern "C" fn aclc_proved_add_rules(
     alloc: Global,
     context: &mut Handle,
     rules: &[Tag],
@@ -126,7 +126,7 @@ pub extern "C" fn aclc_add_rules(
 
 /// Makes room for so many keys of a walk by lanes, in place of the room that was there.
 #[unsafe(no_mangle)]
-pub extern "C" fn aclc_lanes(alloc: Global, context: &mut Handle, keys: u32) -> u32
+pub extern "C" fn aclc_proved_lanes(alloc: Global, context: &mut Handle, keys: u32) -> u32
     ensures empty { context.old.slot.inside ≡ None →
         (result ≡ empty_handle) × (context.new.slot.inside ≡ None) }
     ensures held { (old : Context) → context.old.slot.inside ≡ Some old →
@@ -143,7 +143,7 @@ pub extern "C" fn aclc_lanes(alloc: Global, context: &mut Handle, keys: u32) -> 
 
 /// Writes the verdicts of keys by the table of the last build.
 #[unsafe(no_mangle)]
-pub extern "C" fn aclc_classify(
+pub extern "C" fn aclc_proved_classify(
     alloc: Global,
     context: &mut Handle,
     keys: &[u8],
@@ -170,7 +170,7 @@ pub extern "C" fn aclc_classify(
 
 /// Marks the categories of keys that no rule of the table of the last build wins.
 #[unsafe(no_mangle)]
-pub extern "C" fn aclc_marks(
+pub extern "C" fn aclc_proved_marks(
     alloc: Global,
     context: &mut Handle,
     keys: &[u8],
@@ -195,7 +195,7 @@ pub extern "C" fn aclc_marks(
 /// Tells how many rules the context holds, how many bytes a key has, and how many words the table
 /// has.
 #[unsafe(no_mangle)]
-pub extern "C" fn aclc_sizes(
+pub extern "C" fn aclc_proved_sizes(
     alloc: Global,
     context: &mut Handle,
     rules: &mut usize,
@@ -224,7 +224,7 @@ pub extern "C" fn aclc_sizes(
 
 /// Removes all rules. The table stays.
 #[unsafe(no_mangle)]
-pub extern "C" fn aclc_reset_rules(alloc: Global, context: &mut Handle) -> u32
+pub extern "C" fn aclc_proved_reset_rules(alloc: Global, context: &mut Handle) -> u32
     ensures empty { context.old.slot.inside ≡ None →
         (result ≡ empty_handle) × (context.new.slot.inside ≡ None) }
     ensures held { (old : Context) → context.old.slot.inside ≡ Some old →
@@ -241,7 +241,7 @@ pub extern "C" fn aclc_reset_rules(alloc: Global, context: &mut Handle) -> u32
 
 /// Removes all rules and the table.
 #[unsafe(no_mangle)]
-pub extern "C" fn aclc_reset(alloc: Global, context: &mut Handle) -> u32
+pub extern "C" fn aclc_proved_reset(alloc: Global, context: &mut Handle) -> u32
     ensures empty { context.old.slot.inside ≡ None →
         (result ≡ empty_handle) × (context.new.slot.inside ≡ None) }
     ensures held { (old : Context) → context.old.slot.inside ≡ Some old →
@@ -258,7 +258,7 @@ pub extern "C" fn aclc_reset(alloc: Global, context: &mut Handle) -> u32
 
 /// Frees the context. The handle is empty then. An empty handle stays empty.
 #[unsafe(no_mangle)]
-pub extern "C" fn aclc_free(alloc: Global, context: &mut Handle)
+pub extern "C" fn aclc_proved_free(alloc: Global, context: &mut Handle)
     ensures { context.new.slot.inside ≡ None }
 {
     if context.is_held() {

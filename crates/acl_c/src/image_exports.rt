@@ -12,7 +12,7 @@ use std::alloc::Global;
 
 /// Writes the image of two tables.
 #[unsafe(no_mangle)]
-pub extern "C" fn aclc_save(
+pub extern "C" fn aclc_proved_save(
     alloc: Global,
     ip4: &mut TableHandle,
     ip6: &mut TableHandle,
@@ -41,7 +41,7 @@ pub extern "C" fn aclc_save(
 
 /// Fills two handles with the tables of an image.
 #[unsafe(no_mangle)]
-pub extern "C" fn aclc_load(
+pub extern "C" fn aclc_proved_load(
     alloc: Global,
     ip4: &mut TableHandle,
     ip6: &mut TableHandle,

@@ -15,7 +15,7 @@ use std::alloc::Global;
 
 /// Writes the verdicts of keys that stand apart by the table of the last build.
 #[unsafe(no_mangle)]
-pub extern "C" fn aclc_classify_keys(
+pub extern "C" fn aclc_proved_classify_keys(
     alloc: Global,
     context: &mut Handle,
     keys: &[Key],
@@ -44,7 +44,7 @@ pub extern "C" fn aclc_classify_keys(
 
 /// Writes the verdicts of keys that stand apart by the table.
 #[unsafe(no_mangle)]
-pub extern "C" fn aclc_table_classify_keys(
+pub extern "C" fn aclc_proved_table_classify_keys(
     alloc: Global,
     table: &mut TableHandle,
     keys: &[Key],

@@ -16,7 +16,7 @@ use std::alloc::{AllocError, Global};
 
 /// Fills a handle of a table with a copy of the context's table.
 #[unsafe(no_mangle)]
-pub extern "C" fn aclc_table_copy(
+pub extern "C" fn aclc_proved_table_copy(
     alloc: Global,
     context: &mut Handle,
     table: &mut TableHandle,
@@ -57,7 +57,7 @@ pub extern "C" fn aclc_table_copy(
 
 /// Fills another handle with the same table.
 #[unsafe(no_mangle)]
-pub extern "C" fn aclc_table_share(
+pub extern "C" fn aclc_proved_table_share(
     alloc: Global,
     table: &mut TableHandle,
     other: &mut TableHandle,
@@ -94,7 +94,7 @@ pub extern "C" fn aclc_table_share(
 
 /// Makes room for so many keys of a walk by lanes, in place of the room that was there.
 #[unsafe(no_mangle)]
-pub extern "C" fn aclc_table_lanes(alloc: Global, table: &mut TableHandle, keys: u32) -> u32
+pub extern "C" fn aclc_proved_table_lanes(alloc: Global, table: &mut TableHandle, keys: u32) -> u32
     ensures empty { table.old.slot.inside ≡ None →
         (result ≡ empty_handle) × (table.new.slot.inside ≡ None) }
     ensures held { (old : SharedView) → table.old.slot.inside ≡ Some old →
@@ -111,7 +111,7 @@ pub extern "C" fn aclc_table_lanes(alloc: Global, table: &mut TableHandle, keys:
 
 /// Writes the verdicts of keys by the table.
 #[unsafe(no_mangle)]
-pub extern "C" fn aclc_table_classify(
+pub extern "C" fn aclc_proved_table_classify(
     alloc: Global,
     table: &mut TableHandle,
     keys: &[u8],
@@ -138,7 +138,7 @@ pub extern "C" fn aclc_table_classify(
 
 /// Marks the categories of keys that no rule of the table wins.
 #[unsafe(no_mangle)]
-pub extern "C" fn aclc_table_marks(
+pub extern "C" fn aclc_proved_table_marks(
     alloc: Global,
     table: &mut TableHandle,
     keys: &[u8],
@@ -163,7 +163,7 @@ pub extern "C" fn aclc_table_marks(
 /// Tells of how many rules the table was made, how many bytes a key has, and how many words the
 /// table has.
 #[unsafe(no_mangle)]
-pub extern "C" fn aclc_table_sizes(
+pub extern "C" fn aclc_proved_table_sizes(
     alloc: Global,
     table: &mut TableHandle,
     rules: &mut usize,
@@ -192,7 +192,7 @@ pub extern "C" fn aclc_table_sizes(
 /// Frees the handle's part, and the table where no other handle has it. The handle is empty then.
 /// An empty handle stays empty.
 #[unsafe(no_mangle)]
-pub extern "C" fn aclc_table_free(alloc: Global, table: &mut TableHandle)
+pub extern "C" fn aclc_proved_table_free(alloc: Global, table: &mut TableHandle)
     ensures { table.new.slot.inside ≡ None }
 {
     if table.is_held() {

@@ -1,7 +1,7 @@
 use Rattle.std.proofs.Common.{Some, ap, ◌∙◌}
 use Rattle.table_image.specs.Loading.{pair_of_tables}
 use Rattle.acl_c.proofs.Loading.{loads_pair, loads_none}
-use Rattle.acl_c.proofs.image_exports.aclc_load.Goals as goal
+use Rattle.acl_c.proofs.image_exports.aclc_proved_load.Goals as goal
 
 pub returns-in-Ok-clause-empty : goal.returns-in-Ok-clause-empty
 returns-in-Ok-clause-empty c = λ none4 none6.
