@@ -325,8 +325,8 @@ struct aclc_key {
  * ACLC_TOO_MANY_KEYS: there are more than ACLC_MAX_KEYS.
  * ACLC_BAD_LENGTH: a key hasn't as many bytes as those of the table.
  * ACLC_BAD_CATEGORIES, ACLC_BAD_WALK, ACLC_BAD_LENGTH, ACLC_NO_LANES: as for aclc_classify.
- * It takes no memory but 8,080 bytes of the stack, to which it copies some keys at a time. Since
- * 1.1.
+ * It takes no memory but 8,080 bytes of the stack at most, to which it copies some keys at a time.
+ * Since 1.1.
  */
 aclc_code aclc_classify_keys(struct aclc_context *context, const struct aclc_key *keys,
                              size_t key_count, uint32_t categories, uint32_t walk,

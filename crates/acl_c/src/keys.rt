@@ -1,6 +1,7 @@
 //! Keys that stand apart, each behind a pointer of its own, and their verdicts by a table.
 //!
-//! They are packed some at a time into room on the stack, and then walked as a batch is.
+//! They are packed into room on the stack, some at a time where they are many, and then walked as a
+//! batch is. Room is filled with zeros first, so few keys get little of it.
 
 ghost use Rattle.std.specs.Prelude.{◌≡◌, ◌+◌, ◌*◌, ◌<◌, ◌≤◌, true, length, Some, All};
 ghost use Rattle.table_sizes.specs.Groups.{max_key_len};
@@ -77,11 +78,11 @@ fn walk_some(
     lanes: &mut Scratch,
     keys: &[Key],
     asked: Asked,
-    room: &mut [u8; ROOM],
+    room: &mut [u8],
     verdicts: &mut [u32],
 ) -> u64
     requires lens { are_of_len table.now.key_len keys.now ≡ true }
-    requires few { length keys.now * table.now.key_len ≤ ROOM }
+    requires few { length keys.now * table.now.key_len ≤ length room.old }
     requires most { length keys.now ≤ max_keys }
     requires room { length verdicts.old ≡ length keys.now * asked.cats.count }
     requires lanes { asked.walk ≡ Walk.Lanes → length keys.now ≤ length lanes.old }
@@ -97,6 +98,30 @@ fn walk_some(
     let bytes = &mut room[..keys.len() * key_len];
     pack(key_len, keys, bytes);
     walk_table::<Brand>(Blank::new(1), table, lanes, bytes, asked, verdicts)
+}
+
+/// Writes the verdicts of keys whose bytes are at most so many, and says how many transitions they
+/// took.
+fn walk_once<const BYTES: usize>(
+    table: &Table,
+    lanes: &mut Scratch,
+    keys: &[Key],
+    asked: Asked,
+    verdicts: &mut [u32],
+) -> u64
+    requires lens { are_of_len table.now.key_len keys.now ≡ true }
+    requires room_is_less { BYTES ≤ ROOM }
+    requires bytes { length keys.now * table.now.key_len ≤ BYTES }
+    requires few { length keys.now ≤ max_keys }
+    requires room { length verdicts.old ≡ length keys.now * asked.cats.count }
+    requires lanes { asked.walk ≡ Walk.Lanes → length keys.now ≤ length lanes.old }
+    ensures verdicts { verdicts.new ≡ each_verdicts table.now asked.cats.count keys.now }
+    ensures taken { result ≡ each_transitions table.now keys.now }
+    ensures bytes { All (λ byte. byte < 256) (packed keys.now) }
+    ensures len { length lanes.new ≡ length lanes.old }
+{
+    let mut room = [0; BYTES];
+    walk_some(table, lanes, keys, asked, &mut room, verdicts)
 }
 
 /// Writes the verdicts of the keys, and says how many transitions they took.
@@ -128,6 +153,36 @@ fn walk_apart(
         done = end;
     }
     taken
+}
+
+/// The same, with room for at most a few times the bytes of the keys.
+fn walk_fitting(
+    table: &Table,
+    lanes: &mut Scratch,
+    keys: &[Key],
+    asked: Asked,
+    verdicts: &mut [u32],
+) -> u64
+    requires lens { are_of_len table.now.key_len keys.now ≡ true }
+    requires few { length keys.now ≤ max_keys }
+    requires room { length verdicts.old ≡ length keys.now * asked.cats.count }
+    requires lanes { asked.walk ≡ Walk.Lanes → length keys.now ≤ length lanes.old }
+    ensures verdicts { verdicts.new ≡ each_verdicts table.now asked.cats.count keys.now }
+    ensures taken { result ≡ each_transitions table.now keys.now }
+    ensures bytes { All (λ byte. byte < 256) (packed keys.now) }
+    ensures len { length lanes.new ≡ length lanes.old }
+{
+    let bytes = keys.len() * table.key_len();
+    if bytes <= 64 {
+        return walk_once::<64>(table, lanes, keys, asked, verdicts);
+    }
+    if bytes <= 256 {
+        return walk_once::<256>(table, lanes, keys, asked, verdicts);
+    }
+    if bytes <= 1_024 {
+        return walk_once::<1_024>(table, lanes, keys, asked, verdicts);
+    }
+    walk_apart(table, lanes, keys, asked, verdicts)
 }
 
 /// Writes the verdicts of keys that stand apart, and tells the transitions, or tells why not.
@@ -163,6 +218,6 @@ pub(crate) fn classify_keys(
         Ok(asked) => asked,
         Err(code) => return code,
     };
-    *transitions = walk_apart(table, lanes, keys, asked, verdicts);
+    *transitions = walk_fitting(table, lanes, keys, asked, verdicts);
     OK
 }

@@ -7,8 +7,8 @@ use Rattle.acl_c.proofs.Serving.{batch_by_rules}
 use Rattle.acl_c.proofs.Apart.{room_for, answers, packed_verdicts, packed_transitions, packed_fit}
 use Rattle.acl_c.proofs.keys.classify_keys.Goals as goal
 
-pub walk_apart-requires-clause-room : goal.walk_apart-requires-clause-room
-walk_apart-requires-clause-room c =
+pub walk_fitting-requires-clause-room : goal.walk_fitting-requires-clause-room
+walk_fitting-requires-clause-room c =
     let len : ℕ = c.key_len-key_len.result in
     let lens : are_of_len len c.args.keys.now ≡ true = sym c.are_of_len.ensures ∙ c.if-not-are_of_len.false in
     room_for len c.args.categories (length c.args.verdicts.now) c.args.keys.now c.key_len-key_len.ensures.some lens
@@ -23,7 +23,7 @@ returns-clause-is c =
     let lanes : ℕ = length c.args.lanes.now in
     let room : ℕ = length c.args.verdicts.now in
     let asked = c.in-Ok.ensures in
-    let w = c.walk_apart.ensures in
+    let w = c.walk_fitting.ensures in
     let len = c.key_len-key_len.ensures.value in
     let lens : are_of_len table.key_len keys ≡ true =
     ap (λ (n : ℕ). are_of_len n keys) (sym len) ∙ sym c.are_of_len.ensures ∙ c.if-not-are_of_len.false in
