@@ -151,6 +151,25 @@ class Install(unittest.TestCase):
                 code, said = done(["qemu-x86_64", "-cpu", processor, program])
                 self.assertEqual((code, "CPU ISA level is lower than required" in said), (status, status != 0), said)
 
+    @unittest.skipUnless(shutil.which("cmake"), "there is no cmake")
+    def test_cmake_links_with_the_shared_library_or_as_a_component_says_with_the_archive(self):
+        self.run_script("include/install", self.prefix)
+        source = self.folder / "source"
+        source.mkdir()
+        (source / "main.c").write_text("#include <aclc.h>\nint main(void) { return (int)aclc_version(); }\n")
+        (source / "CMakeLists.txt").write_text("cmake_minimum_required(VERSION 3.16)\nproject(tried C)\n"
+                                               "find_package(aclc REQUIRED COMPONENTS ${KIND})\nadd_executable(main main.c)\n"
+                                               "target_link_libraries(main aclc::aclc)\n")
+        for kind, wanted in (("", True), ("shared", True), ("static", False), ("odd", None)):
+            build = self.folder / f"build{kind}"
+            words = ["cmake", "-S", source, "-B", build, f"-DKIND={kind}", f"-DCMAKE_PREFIX_PATH={self.prefix}"]
+            code, said = done(words)
+            self.assertEqual((code == 0, "and not odd" in said), (wanted is not None, wanted is None), said)
+            if wanted is not None:
+                code, said = done(["cmake", "--build", build])
+                self.assertEqual(code, 0, said)
+                self.assertEqual("libaclc.so.1" in done(["readelf", "-d", build / "main"])[1], wanted, kind)
+
     def test_an_archive_that_lacks_a_call_is_refused(self):
         make_archive(self.kit / "made.a", without=["aclc_proved_save"])
         code, said = self.run_script("include/install", self.prefix)
