@@ -27,6 +27,9 @@ class Page {
     this.report = report;
     this.filter = everything();
     this.category = 0;
+    this.columns = new Set();
+    this.rules = { choice: 'all', order: 'line', search: '' };
+    this.longestEnd = null;
     this.categories = report.categories;
     this.captures = report.files.filter((it) => it.role === 'capture');
     this.known = new Map();

@@ -3,16 +3,20 @@
 import { addressText, count, endText, fieldsOf, make, many, protocolName, rangeText, timeText, WITH_PORTS } from './text.js';
 import { everything, isEverything, shownBy, totalBy } from './filters.js';
 import { KINDS } from './data.js';
-import { Table } from './table.js';
+import { Table, widthOf } from './table.js';
 
 const MOST_CHOICES = 2000;
+// The characters of an address of IPv4 with a port, and what brackets and a port add to one of IPv6.
+const IP4_END = 21;
+const PORT_END = 8;
 
-// The answers of a list in all categories, as one text.
-export function answersText(report, at, list) {
+// The categories that have columns: the one that is chosen, and those that are asked for.
+const shownCategories = (page) => page.categories.map((_, place) => place).filter((it) => it === page.category || page.columns.has(it));
+
+// The answer of a list in a category.
+function answerText(report, at, list, category) {
   const { packets } = report;
-  if (!packets.isOfKey(at)) return '';
-  const listed = report.lists[list];
-  return report.categories.map((_, category) => report.answerText(listed, packets.decider(packets.outcome[at], list, category))).join(' ');
+  return packets.isOfKey(at) ? report.answerText(report.lists[list], packets.decider(packets.outcome[at], list, category)) : '';
 }
 
 // What a packet is, and its two ends.
@@ -35,18 +39,53 @@ function rowOf(page, at) {
   const number = page.captures.length > 1 ? `${packets.capture[at] + 1}#${packets.number[at]}` : String(packets.number[at]);
   const time = packets.hasTimes ? [timeText(packets.time[at], packets.timeDigits())] : [];
   const cells = [number, ...time, ...fields(packets, at)];
-  if (report.old) cells.push(answersText(report, at, 0));
-  return [...cells, answersText(report, at, list), by];
+  for (const category of shownCategories(page)) {
+    for (let its = 0; its <= list; its++) cells.push(answerText(report, at, its, category));
+  }
+  return [...cells, by];
 }
 
+// How many characters the longest address of IPv6 has that is held, with brackets and a port, or one more.
+function longestEnd({ kind, key, keys, held }) {
+  let longest = IP4_END;
+  for (let at = 0; at < held; at++) {
+    if (kind[at] !== 6) continue;
+    for (const from of [key[at] + 1, key[at] + 17]) longest = Math.max(longest, addressLength(keys, from) + PORT_END);
+  }
+  return longest;
+}
+
+// How many characters an address of IPv6 has, or one more: a run of zeros is written as `::`.
+function addressLength(keys, from) {
+  let [length, run, best] = [7, 0, 1];
+  for (let at = from; at < from + 16; at += 2) {
+    const group = (keys[at] << 8) | keys[at + 1];
+    length += group > 0xfff ? 4 : group > 0xff ? 3 : group > 0xf ? 2 : 1;
+    run = group ? 0 : run + 1;
+    best = Math.max(best, run);
+  }
+  return best > 1 ? length - 2 * best + 2 : length;
+}
+
+const longest = (texts) => texts.reduce((most, it) => Math.max(most, it.length), 0);
+
 function columnsOf(page) {
-  const { packets, old } = page.report;
-  const end = packets.outcomes.some((it) => it.kind === 6) ? 'minmax(12.5rem, 20rem)' : '12.5rem';
-  const answer = page.categories.length > 1 ? '12rem' : '6.5rem';
+  const { report } = page;
+  const { packets, old, lists, list } = report;
   const code = (title, width, isEnd) => ({ title, width, end: isEnd, kind: 'number', wide: true });
-  return [code('Number', '5.6rem', true), ...(packets.hasTimes ? [code('Time (UTC)', '13.5rem')] : []), code('Class', '7.4rem'),
-    code('Source', end), code('Destination', end), ...(old ? [code('Old answer', answer)] : []),
-    code(page.categories.length > 1 ? 'Answers' : 'Answer', answer), { ...code('Decided by', 'minmax(14rem, 1fr)'), kind: 'code' }];
+  page.longestEnd ??= longestEnd(packets);
+  const end = widthOf(page.longestEnd);
+  const places = (its, category) => [...new Set(packets.outcomes.map((_, outcome) => packets.decider(outcome, its, category)))];
+  const answers = shownCategories(page).flatMap((category) => lists.map((listed, its) => {
+    const name = old ? `${its ? 'New' : 'Old'} answer` : 'Answer';
+    const title = page.categories.length > 1 ? `${name}, category ${page.categories[category]}` : name;
+    return code(title, widthOf(Math.max(title.length, longest(places(its, category).map((it) => report.answerText(listed, it))))));
+  }));
+  const by = longest(places(packets.lists - 1, page.category).map((it) => (it < 0 ? '' : `${list.entries[it].place}: ${list.entries[it].text}`)));
+  const isOne = page.categories.length < 2;
+  return [code('Number', '5.6rem', true), ...(packets.hasTimes ? [code('Time (UTC)', widthOf(20 + packets.timeDigits()))] : []),
+    code('Class', widthOf(17)), code('Source', end), code('Destination', end), ...answers,
+    { ...code(isOne ? 'Decided by' : `Decided by in category ${page.categories[page.category]}`, `minmax(${widthOf(Math.max(25, by))}, 1fr)`), kind: 'code' }];
 }
 
 // The entries that decide packets, the most first.
@@ -98,6 +137,23 @@ function changedBox(page, again) {
   } });
   box.checked = page.filter.changed;
   return make('div', { class: 'field' }, make('label', { for: 'by-changed' }, 'Another answer'), box);
+}
+
+// Which categories have columns, if there are several.
+function columnBoxes(page) {
+  if (page.categories.length < 2) return null;
+  const boxes = page.categories.map((name, place) => {
+    const box = make('input', { type: 'checkbox', id: `column-${place}`, disabled: place === page.category, onchange: (event) => {
+      if (event.target.checked) page.columns.add(place);
+      else page.columns.delete(place);
+      page.go('packets');
+      document.getElementById('columns').open = true;
+      document.getElementById(`column-${place}`).focus();
+    } });
+    box.checked = place === page.category || page.columns.has(place);
+    return make('span', { class: 'field' }, box, make('label', { for: `column-${place}` }, String(name)));
+  });
+  return make('details', { id: 'columns' }, make('summary', {}, 'Columns of categories'), make('div', { class: 'tools' }, boxes));
 }
 
 // What is filtered by that has no input of its own, each with a button that ends it.
@@ -160,5 +216,5 @@ export function packetsView(page) {
     all, told);
   fill();
   again();
-  return [lead(page), tools, table.element];
+  return [lead(page), tools, columnBoxes(page), table.element];
 }

@@ -7,7 +7,12 @@ const MOST_HEIGHT = 12_000_000;
 // No screen is higher.
 const MOST_SEEN = 6000;
 const SPARE = 6;
+// Texts longer than this are followed by scrolling.
+const MOST_CHARACTERS = 220;
 let tables = 0;
+
+// How wide a column is that shows texts of so many characters in full.
+export const widthOf = (characters) => `${(Math.min(MOST_CHARACTERS, characters) / 2 + 1.4).toFixed(1)}rem`;
 
 export class Table {
   // `columns` have a title, a width of grid columns, and `end` where they stand at the right. `cells` gives the contents

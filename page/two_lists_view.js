@@ -3,7 +3,7 @@
 // only one of them has.
 import { count, isOfPacket, keyText, make, many } from './text.js';
 import { pairsOf } from './counts.js';
-import { Table } from './table.js';
+import { Table, widthOf } from './table.js';
 
 function sideOf(report, list, place, what) {
   const entry = place < 0 ? null : list.entries[place];
@@ -31,11 +31,12 @@ function familyOf(report, told) {
 function pairsTable(page, pairs) {
   const { report } = page;
   const text = (list, place) => (place < 0 ? 'no rule matches' : `${list.entries[place].place}: ${list.entries[place].text}`);
+  const widest = (list, side) => `minmax(${widthOf(pairs.reduce((most, it) => Math.max(most, text(list, it[side]).length), 20))}, 1fr)`;
   const code = (title, width, kind = 'code') => ({ title, width, kind, wide: true });
   const table = new Table({
     label: 'Packets that get another answer, by the lines that decide', fit: 10,
     columns: [{ title: 'Packets', width: '6rem', end: true, kind: 'number' }, ...(report.categories.length > 1 ? [code('Category', '5rem', 'number')] : []),
-      code('Old answer', '6.5rem', 'number'), code('Old line', 'minmax(12rem, 1fr)'), code('New answer', '6.5rem', 'number'), code('New line', 'minmax(12rem, 1fr)')],
+      code('Old answer', '6.5rem', 'number'), code('Old line', widest(report.old, 'old')), code('New answer', '6.5rem', 'number'), code('New line', widest(report.list, 'now'))],
     cells: (at) => {
       const { total, category, old, now } = pairs[at];
       return [count(total), ...(report.categories.length > 1 ? [String(report.categories[category])] : []), report.answerText(report.old, old),
@@ -61,7 +62,8 @@ function onlyIn(list, places, which) {
   if (!places.length) return [make('p', { class: 'note' }, `Each line of the ${which} list is in the other one too.`)];
   const table = new Table({
     label: `Lines of the ${which} list alone`, fit: 10,
-    columns: [{ title: list.what, width: '5rem', end: true, kind: 'number' }, { title: `Only in the ${which} list, ${list.name}`, width: '1fr', kind: 'code', wide: true }],
+    columns: [{ title: list.what, width: '5rem', end: true, kind: 'number' }, { title: `Only in the ${which} list, ${list.name}`,
+      width: `minmax(${widthOf(places.reduce((most, it) => Math.max(most, list.entries[it].text.length), 30))}, 1fr)`, kind: 'code', wide: true }],
     cells: (at) => [list.entries[places[at]].number === null ? 'end' : String(list.entries[places[at]].number), list.entries[places[at]].text],
   });
   table.show(places.length);

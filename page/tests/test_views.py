@@ -7,13 +7,14 @@ no request was made.
 import calendar
 import http.server
 import re
+import struct
 import threading
 import time
 import unittest
 
 import browsers
 import made
-from aclc_tools import made_by
+from aclc_tools import capture, made_by
 from aclc_tools.program import TOP
 from shown import DATA, EDITED, EXAMPLES, FILES, LEAD, OFFICE, SIDE, VIEW, Shown
 
@@ -30,8 +31,8 @@ class Looks(Shown):
     def test_the_views_of_the_examples(self):
         self.open(FILES.page("office", 1, OFFICE, "--old", EDITED, EXAMPLES / "office.pcap"))
         rows = self.rows()
-        self.assertTrue(rows[0].startswith("2 @192.168.1.0/24 192.168.2.31/32"), rows)
-        self.assertIn("least key: udp 192.168.1.0:0 → 192.168.2.31:1234 1 33 %", rows[0])
+        self.assertTrue(rows[0].startswith("2 1 33 % @192.168.1.0/24 192.168.2.31/32"), rows)
+        self.assertIn("least key: udp 192.168.1.0:0 → 192.168.2.31:1234", rows[0])
         self.picture("rules")
         self.tab("packets")
         self.assertEqual([it[:46] for it in self.rows()][0], "1 IPv4 udp 192.168.1.5:5000 192.168.2.31:1234 ")
@@ -290,6 +291,51 @@ class Views(Looks):
         self.browser.evaluate("[...document.querySelectorAll('#side button')].find(it => it.textContent === 'Show its packets').click()")
         self.assertIn("line 2100: ", self.browser.evaluate("document.getElementById('by-entry').selectedOptions[0]?.text"))
         self.assertEqual(len(self.rows()), 1)
+
+    def wide(self):
+        """Addresses of IPv6 in their longest form, by rules of 16 categories."""
+        ends = [bytes.fromhex("20010db8aaaabbbbccccddddeeee%04x" % (0xf000 + it)) for it in range(4)]
+        frames = [bytes(12) + b"\x86\xdd" + struct.pack(">IHBB16s16sHHHH", 0x60000000, 8, 17, 64, ends[it % 4], ends[3 - it % 4],
+                                                       40000 + it, 65535, 8, 0) for it in range(20)]
+        rules = FILES.write("wide.rules", "".join(
+            f"@2001:db8:aaaa:bbbb:cccc:dddd:eeee:{0xf000 + it:x}/128 ::/0 0 : 65535 1024 : 65535 17/0xFF pri={900 - it} "
+            f"cat={0xF << it % 13} data={4000000000 + it}\n" for it in range(40)))
+        return FILES.page("wide", 0, rules, FILES.write("wide.pcap", capture.write(frames)))
+
+    def test_no_cell_hides_what_it_is_about(self):
+        """Fails where a text is wider than its cell: of 16 categories each has a column, if it is asked for."""
+        cut = "[...document.querySelectorAll('.row .cell, .row .cell *')].filter(it => it.scrollWidth > it.clientWidth + 1 && it.clientWidth).map(it => it.innerText)"
+        self.open(self.wide())
+        self.assertEqual(self.browser.evaluate(cut), [])
+        self.tab("packets")
+        self.assertEqual(self.browser.evaluate(cut), [])
+        self.assertIn("[2001:db8:aaaa:bbbb:cccc:dddd:eeee:f003]:65535", self.rows()[0])
+        for category in (3, 15):
+            self.browser.evaluate(f"document.getElementById('column-{category}').click()")
+        self.assertEqual(self.browser.evaluate("[...document.querySelectorAll('.row.head .cell')].map(it => it.innerText)")[4:7],
+                         ["Answer, category 0", "Answer, category 3", "Answer, category 15"])
+        self.assertEqual(self.browser.evaluate(cut), [])
+        self.type("category", "2")
+        self.assertIn("Decided by in category 2", self.browser.evaluate(VIEW))
+        self.picture("wide")
+        self.open(self.hour())
+        for name in ("rules", "packets", "lists"):
+            self.tab(name)
+            self.assertEqual(self.browser.evaluate(cut), [], name)
+
+    def test_rules_are_searched_sorted_and_copied(self):
+        self.open(self.hour())
+        self.type("order", "packets")
+        counts = [int(it.split(" ")[1].replace(",", "")) for it in self.rows()]
+        self.assertEqual(counts, sorted(counts, reverse=True))
+        self.type("search", "22 : 22")
+        self.assertEqual(sorted(it.split(" ")[0] for it in self.rows()), ["4", "5"])
+        self.browser.evaluate("(() => { navigator.clipboard.writeText = async (text) => { window.copied = text; }; "
+                              "document.getElementById('copy-csv').click(); })()")
+        self.browser.until("window.copied && document.getElementById('said').textContent === '2 rows copied'", "the copy")
+        lines = self.browser.evaluate("window.copied").split("\r\n")
+        self.assertEqual((lines[0], len(lines)), ("line,packets,verdict,rule,remark", 3))
+        self.assertIn("@10.0.0.0/8 0.0.0.0/0 0 : 65535 22 : 22 6/0xFF data=2", "".join(lines))
 
     def test_a_million_rows(self):
         server = self.serve()
