@@ -12,6 +12,7 @@ import { refusalsView, remarksOf } from './refusals_view.js';
 import { aboutView } from './about_view.js';
 import { packetDetails, ruleDetails } from './side.js';
 import { filesView, startLive } from './live.js';
+import { startPrinting } from './print.js';
 
 const $ = (id) => document.getElementById(id);
 
@@ -70,6 +71,7 @@ class Page {
     const names = captures.length > 2 ? `${captures[0]} and ${captures.length - 1} more captures` : captures.join(' and ');
     const lists = report.files.filter((it) => it.role === 'list').map((it) => it.name);
     const title = captures.length && lists.length ? `What ${lists[0]} does with ${names}` : lists[0] ?? 'A list of rules';
+    this.title = title;
     $('head').replaceChildren(make('h1', {}, title), make('p', { class: 'note' }, this.summary()), this.categoryChoice() ?? '');
     document.title = `aclc: ${title}`;
   }
@@ -185,6 +187,7 @@ function fail(fault) {
 
 async function start() {
   const page = new Page();
+  startPrinting(page);
   $('tabs').addEventListener('keydown', (event) => page.tabKey(event));
   document.addEventListener('keydown', (event) => event.key === 'Escape' && page.close(true));
   const element = $('report');

@@ -31,7 +31,7 @@ export function deadText(list, entry) {
 }
 
 // The second line of a row: why the rule can't decide, or its least key.
-function belowText(list, entry, category) {
+export function belowText(list, entry, category) {
   if (entry.leftOut) return `left out, so that packets which come to it aren’t decided: ${entry.leftOut}`;
   if (entry.notHere) return `can’t decide under what is assumed (${list.assumed}): ${deadText(list, { dead: entry.notHere })}`;
   if (entry.dead) return deadText(list, entry);
@@ -60,7 +60,7 @@ function whenOf(packets, hits) {
   return [make('div', { class: 'two' }, make('span', {}, first), make('span', { class: 'note' }, first === last ? '' : last))];
 }
 
-const numberText = (entry) => (entry.number === null ? 'end' : String(entry.number));
+export const numberText = (entry) => (entry.number === null ? 'end' : String(entry.number));
 
 function cellsOf(page, row, total) {
   const { list, packets } = page.report;

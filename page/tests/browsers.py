@@ -182,6 +182,10 @@ class Chromium(Browser):
         node = self.do("DOM.querySelector", {"nodeId": root, "selector": selector})["nodeId"]
         self.do("DOM.setFileInputFiles", {"nodeId": node, "files": [str(Path(it).resolve()) for it in paths]})
 
+    def printed(self):
+        """What the page is on paper, as PDF."""
+        return base64.b64decode(self.do("Page.printToPDF", {"printBackground": False})["data"])
+
     def picture(self, path):
         """Takes a picture of what is seen."""
         shot = self.do("Page.captureScreenshot", {"format": "png"})
@@ -268,6 +272,10 @@ class Firefox(Browser):
         told = self.ask("browsingContext.locateNodes", {"context": self.context, "locator": {"type": "css", "value": selector}})
         self.ask("input.setFiles", {"context": self.context, "element": {"sharedId": told["nodes"][0]["sharedId"]},
                                     "files": [str(Path(it).resolve()) for it in paths]})
+
+    def printed(self):
+        """What the page is on paper, as PDF."""
+        return base64.b64decode(self.ask("browsingContext.print", {"context": self.context})["data"])
 
     def picture(self, path):
         """Takes a picture of what is seen."""

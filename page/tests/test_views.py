@@ -16,7 +16,7 @@ import browsers
 import made
 from aclc_tools import capture, made_by
 from aclc_tools.program import TOP
-from shown import DATA, EDITED, EXAMPLES, FILES, LEAD, OFFICE, SIDE, VIEW, Shown
+from shown import DATA, EDITED, EXAMPLES, FILES, LEAD, OFFICE, PICTURES, SIDE, VIEW, Shown
 
 
 def nanoseconds(text):
@@ -336,6 +336,25 @@ class Views(Looks):
         lines = self.browser.evaluate("window.copied").split("\r\n")
         self.assertEqual((lines[0], len(lines)), ("line,packets,verdict,rule,remark", 3))
         self.assertIn("@10.0.0.0/8 0.0.0.0/0 0 : 65535 22 : 22 6/0xFF data=2", "".join(lines))
+
+    def test_paper_has_all_rules_and_a_bounded_number_of_packets(self):
+        """No more pages than the rows fill, and a head line that each of them repeats."""
+        rules = "".join(f"@0.0.0.0/0 0.0.0.0/0 0 : 65535 {port} : {port} 6/0xFF data=1\n" for port in range(300))
+        self.open(FILES.page("paper", 0, FILES.write("paper.rules", rules),
+                             FILES.write("paper.pcap", made.steady([made.START * 10 ** 9] * 900, ports=range(300)))))
+        self.browser.evaluate("window.dispatchEvent(new Event('beforeprint'))")
+        rows = "[...document.querySelectorAll('#print .paper')].map(it => it.tBodies[0].rows.length)"
+        heads = "[...document.querySelectorAll('#print .paper thead tr:first-child')].map(it => it.textContent)"
+        self.assertEqual(self.browser.evaluate(rows), [300, 500])
+        for head, said in zip(self.browser.evaluate(heads), ("rules", "the first 500 of 900 that are shown, of 900 packets")):
+            self.assertIn("paper.rules does with", head)
+            self.assertIn(said, head)
+        self.browser.evaluate("window.dispatchEvent(new Event('afterprint'))")
+        self.assertTrue(self.browser.evaluate("document.getElementById('print') === null"))
+        paper = self.browser.printed()
+        (PICTURES / f"{self.browser.name}-paper.pdf").write_bytes(paper)
+        if self.browser.name == "chromium":
+            self.assertTrue(10 < len(re.findall(rb"/Type /Page\b", paper)) < 40, len(re.findall(rb"/Type /Page\b", paper)))
 
     def test_a_million_rows(self):
         server = self.serve()
