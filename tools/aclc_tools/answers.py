@@ -15,6 +15,8 @@ from aclc_tools import any_list, capture, keys
 from aclc_tools.program import leave, note, program
 
 MOST_CATEGORIES = 16
+# The greatest table that the program makes.
+MOST_WORDS = 67108864
 # The exit codes of a capture that is faulty, or that can't be read.
 OF_CAPTURE = (5, 7)
 # The nanoseconds before or after 1970 that a time may have which is told.
@@ -67,23 +69,18 @@ class Room:
         return path
 
 
-def line_of(rule, number):
-    """A rule's line with this userdata, and with its priority, which its place gives it else."""
-    places = sorted((rule.places[name] for name in ("pri", "data") if name in rule.places), reverse=True)
+def columns_of(rule, *names):
+    """A rule's line without some of its attributes, and without blanks at its ends."""
     text = rule.text
-    for start, end in places:
-        text = text[:start] + text[end:]
-    return b"%s pri=%d data=%d\n" % (text, rule.priority, number)
-
-
-def copy_of(rules, data):
-    """The bytes of a rule file of some rules, each with the userdata that stands under its number."""
-    return b"".join(line_of(rule, data[rule.ordinal]) for rule in rules)
+    for start, end in sorted((rule.places[name] for name in names if name in rule.places), reverse=True):
+        text = text[:start].rstrip(b" \t") + text[end:]
+    return text.strip(b" \t")
 
 
 def numbered(rules):
-    """The bytes of a rule file of some rules whose userdata is their number."""
-    return b"".join(line_of(rule, rule.ordinal) for rule in rules)
+    """The bytes of a rule file of all rules of a list, whose userdata is their number: so it is of rules without data=, and
+    without it they aren't longer than the list."""
+    return b"".join(columns_of(rule, "data") + b"\n" for rule in rules)
 
 
 def started(*words):
@@ -119,23 +116,24 @@ def printed(*words):
             note(message.rstrip("\n"))
 
 
-def audited(copy, categories, given):
-    """What the program says of each rule: its userdata, and a category where it decides with its least key, or None."""
+def audited(copy, categories, given, great):
+    """What the program says of each rule: its number in its family, and a category where it decides with its least key, or
+    None."""
     told, count = set(), None
-    for parts in lines_of("audit", copy, f"categories={categories}", *words_more(given)):
+    for parts in lines_of("audit", copy, f"categories={categories}", *words_more(given, great)):
         if parts[0] == "rules":
             count = int(parts[1])
         else:
             told.add((parts[0], parts[2]))
-            yield int(parts[4]), (int(parts[6]), keys.of_digits(parts[8])) if parts[5] == "wins" else None
+            yield int(parts[2]), (int(parts[6]), keys.of_digits(parts[8])) if parts[5] == "wins" else None
     if count != len(told):
         raise Refusal(0, f"the program audits {count} rules, and tells of {len(told)}")
 
 
-def compared(one, other, given):
+def compared(one, other, given, great):
     """What the program says of each family in which two lists differ: a category, and a key."""
     families = []
-    for parts in lines_of("compare", one, other, *words_more(given)):
+    for parts in lines_of("compare", one, other, *words_more(given, great)):
         families.append(parts[0])
         if parts[1] == "differ":
             yield int(parts[3]), keys.of_digits(parts[5])
@@ -143,9 +141,10 @@ def compared(one, other, given):
         raise Refusal(0, f"the program compares {' and '.join(families) or 'no family'}, and should both")
 
 
-def words_more(given):
-    """The words of the program that options of the tools stand for."""
-    return [f"max-words={given.max_words}"] if given.max_words else []
+def words_more(given, great=False):
+    """The words of the program that options of the tools stand for: what the user names, or the greatest table."""
+    words = given.max_words or great and MOST_WORDS
+    return [f"max-words={words}"] if words else []
 
 
 def classified(listed, copy, packets, categories, given):

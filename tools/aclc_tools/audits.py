@@ -21,14 +21,14 @@ class Audit:
                           for part, clipped in search.run()]
             self.parts += search.parts if search.runs > 2 else 0
 
-    def look(self, family, part, clipped, of_packets):
+    def look(self, family, part, clipped, of_packets, great):
         """Audits a part; whether some rules are seen to decide keys alone that no packet has."""
         content = parts.rule_file(family, part, clipped, of_packets)
-        unclear = set()
-        for number, win in answers.audited(self.room.write(".rules", content), self.categories, self.given):
-            # The number 0 is that of the keys which no packet has.
-            if win:
-                category, key = win
+        before, unclear = content.count(b"\n") - len(clipped), set()
+        for place, win in answers.audited(self.room.write(".rules", content), self.categories, self.given, great):
+            # The first rules are of the keys which no packet has.
+            if win and place > before:
+                number, (category, key) = clipped[place - before - 1].rule.ordinal, win
                 (self.live if of_packets or key.is_of_a_packet() else unclear).add(number)
                 met = self.least.get((number, category), key)
                 self.least[number, category] = min(met, key, key=lambda it: (not it.is_of_a_packet(), it.content()))

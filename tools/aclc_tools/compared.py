@@ -1,5 +1,7 @@
 # SPDX-License-Identifier: BSD-3-Clause
 """Two lists over all packets that there are: the least packet of each family that they answer differently."""
+from collections import Counter
+
 from aclc_tools import answers, capture, keys, labels, packet_words, parts
 from aclc_tools.program import leave
 from aclc_tools.two_lists import Change
@@ -29,14 +31,13 @@ class Compared:
             self.left += [(family, part, search.message) for part, _ in search.run()]
             self.parts += search.parts if search.runs > 2 else 0
 
-    def look(self, family, part, clipped, of_packets):
+    def look(self, family, part, clipped, of_packets, great):
         """Compares a part; whether the lists differ there at a key that no packet has."""
         names, masks = [], self.masks_of(family, clipped)
         for owner, numbers in enumerate(self.numbers):
             mine = [it for it in clipped if it.owner == owner]
-            content = parts.rule_file(family, part, mine, of_packets, numbers)
-            names.append(self.room.write(".rules", masks + content))
-        for category, key in answers.compared(*names, self.given):
+            names.append(self.room.write(".rules", parts.rule_file(family, part, mine, of_packets, numbers, masks)))
+        for category, key in answers.compared(*names, self.given, great):
             if not key.is_of_a_packet():
                 self.odd.add(family)
                 return True
@@ -47,7 +48,7 @@ class Compared:
     def masks_of(self, family, clipped):
         """Rules above all others of what lines that were left out may decide in either list."""
         masked = (it.part for it in clipped if it.rule.ordinal in self.masked[it.owner])
-        return "".join(parts.line(family, it, 0, parts.GREATEST, 0xFFFF) for it in masked).encode()
+        return [parts.line(family, it, 0, parts.GREATEST).encode() for it in masked]
 
     def is_told(self):
         """Whether nothing is left that couldn't be told."""
@@ -76,11 +77,12 @@ class Whatever(Compared):
 
 
 def numbers_of(lists, answers_of, data):
-    """A number for each answer of the rules of two lists, the same for equal ones; 0 is the answer of no rule."""
-    known = {}
+    """A number for each answer of the rules of two lists, the same for equal ones; 0 is the answer of no rule. The more rules
+    have an answer, the less its number, so that the program's copies of the lists are short."""
     own = [answers_of(listed, data) for listed in lists]
-    for answer in (it for its in own for it in its):
-        known.setdefault(answer, len(known))
+    counts = Counter(it for its in own for it in its)
+    counts.pop(own[0][0])
+    known = {own[0][0]: 0, **{answer: number for number, (answer, _) in enumerate(counts.most_common(), 1)}}
     return [[known[answer] for answer in its] for its in own]
 
 
@@ -94,7 +96,7 @@ def answer_at(key, listed, copy, packet, given, room):
             raise
     part = parts.of_key(key)
     met = parts.clip(parts.Search(key.family, [listed.rules], None).rules, part, key.family)
-    narrow = room.write(".rules", parts.rule_file(key.family, part, met, False))
+    narrow = room.write(".rules", parts.rule_file(key.family, part, met, False, range(len(listed.rules) + 1)))
     return next(answers.classified(listed, narrow, packet, answers.MOST_CATEGORIES, given))
 
 

@@ -8,8 +8,9 @@ tables.
 from collections import namedtuple
 
 from aclc_tools import boxes
-from aclc_tools.answers import Refusal, line_of
+from aclc_tools.answers import Refusal, columns_of
 from aclc_tools.keys import WITH_PORTS
+from aclc_tools.rule_file import MOST_BYTES, MOST_RULES
 
 Part = namedtuple("Part", "protocol source destination source_ports destination_ports")
 # A rule, the place of its list, and what is left of it.
@@ -17,6 +18,8 @@ Clipped = namedtuple("Clipped", "rule owner part")
 WHOLE = Part((0, 0), (0, 0), (0, 0), (0, 0xFFFF), (0, 0xFFFF))
 BITS = {4: 32, 6: 128}
 MOST_RUNS = 200
+# So many runs ask for the greatest table, and the others for the usual one, which is refused sooner.
+MOST_GREAT = 40
 # The greatest priority: no rule of a list has it, since ranks begin below.
 GREATEST = 536870911
 # The exit codes of a table that is too large, and of two lists with too many rules.
@@ -115,24 +118,39 @@ def cut(clipped, part, family):
     return min(counted, key=lambda it: it[:2])[2] if counted else []
 
 
-def line(family, part, data, priority, categories):
-    """A line of a rule file."""
+def line(family, part, data=None, priority=None, categories=0xFFFF):
+    """A line of a rule file, without what the program takes for what isn't there."""
     networks = [f"{boxes.address_text(family, address >> BITS[family] - length << BITS[family] - length)}/{length}"
                 for address, length in (part.source, part.destination)]
     ranges = [f"{low}:{high}" for low, high in (part.source_ports, part.destination_ports)]
     value, mask = part.protocol
-    return f"@{' '.join(networks + ranges)} {value & mask}/{mask} pri={priority} cat={categories} data={data}\n"
+    more = [f"pri={priority}"] * (priority is not None) + [f"cat={categories}"] * (categories != 0xFFFF)
+    more += [f"data={data}"] * (data is not None)
+    return f"@{' '.join([*networks, *ranges, f'{value & mask}/{mask}', *more])}\n"
 
 
-def rule_file(family, part, clipped, of_packets, data=None):
-    """The bytes of a rule file of what is left of rules in a part: with their numbers as userdata, or with what stands
-    under these. Keys that no packet has are decided before all rules, if only those of packets are looked at."""
-    lines = [it.encode() for it in of_no_packet(family, part)] if of_packets else []
+def rule_file(family, part, clipped, of_packets, data=None, masks=()):
+    """The bytes of a rule file of what is left of rules in a part, in their order, with the userdata that stands under their
+    numbers. Lines that mask keys are decided before all rules, and so are keys that no packet has, if only those of packets
+    are looked at.
+
+    A rule without pri= or data= has a priority by its place, and its place as userdata; so neither is written then.
+    """
+    lines = [*masks, *(it.encode() for it in (of_no_packet(family, part) if of_packets else ()))]
+    ranked = any("pri" in it.rule.given for it in clipped)
     for it in clipped:
-        number = data[it.rule.ordinal] if data else it.rule.ordinal
-        lines.append(line_of(it.rule, number) if part == WHOLE else
-                     line(family, it.part, number, it.rule.priority, it.rule.categories).encode())
+        number = data[it.rule.ordinal] if data and data[it.rule.ordinal] != len(lines) + 1 else None
+        lines.append(whole_line(it.rule, number, ranked) if part == WHOLE else
+                     line(family, it.part, number, it.rule.priority if ranked else None, it.rule.categories).encode())
+    if len(lines) > MOST_RULES or sum(map(len, lines)) > MOST_BYTES:
+        raise Refusal(TOO_LARGE[0], "the rules of both lists are too many for a file")
     return b"".join(lines)
+
+
+def whole_line(rule, data, ranked):
+    """A rule's own line with this userdata, and with its priority, if it isn't by its place."""
+    more = b" pri=%d" % rule.priority if ranked and "pri" not in rule.given else b""
+    return columns_of(rule, "data") + more + (b"" if data is None else b" data=%d" % data) + b"\n"
 
 
 def of_no_packet(family, part):
@@ -157,8 +175,9 @@ def words(family, part):
 class Search:
     """Looks at all keys of a family, in parts where the program refuses the whole.
 
-    `look` gets the part, the rules of all lists that are left in it, and whether keys that no packet has are left
-    out. It asks the program, and says whether the part has to be looked at once more without these keys.
+    `look` gets the part, the rules of all lists that are left in it, whether keys that no packet has are left out, and
+    whether the greatest table is asked for. It asks the program, and says whether the part has to be looked at once more
+    without these keys.
     """
 
     def __init__(self, family, lists, look):
@@ -177,7 +196,7 @@ class Search:
                 continue
             self.runs += 1
             try:
-                if self.look(self.family, part, clipped, of_packets) and not of_packets:
+                if self.look(self.family, part, clipped, of_packets, self.runs <= MOST_GREAT) and not of_packets:
                     waiting.append((part, clipped, True))
                 else:
                     self.parts += 1

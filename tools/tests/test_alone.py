@@ -231,6 +231,43 @@ class Refusals(Alone):
                 self.assertNotIn("Traceback", said)
 
 
+class Copies(unittest.TestCase):
+    """What the program gets of a list."""
+
+    def test_they_are_not_longer_than_the_list(self):
+        """Else a list that the program takes would be too long for it as a copy."""
+        draw = drawn.chances(17)
+        for turn in range(60):
+            lines = [line for line in drawn.rule_lines(draw, 30, turn % 2 == 0) if line.startswith("@")]
+            source = drawn.text_of(lines).encode()
+            rules, faults = rule_file.read_rules(source)
+            self.assertEqual(faults, [])
+            self.assertLessEqual(len(answers.numbered(rules)), len(source))
+            again, _ = rule_file.read_rules(answers.numbered(rules))
+            self.assertEqual([(it.userdata, it.priority, it.categories) for it in again],
+                             [(it.ordinal, it.priority, it.categories) for it in rules])
+            mine = [parts.Clipped(it, 0, parts.of_rule(it)) for it in rules if it.family == 4]
+            if mine and all("pri" in it.given for it in rules) or not any("pri" in it.given for it in rules):
+                self.assertLessEqual(len(parts.rule_file(4, parts.WHOLE, mine, False)), len(source))
+
+    def test_a_copy_that_is_too_long_is_cut_into_parts(self):
+        rules, _ = rule_file.read_rules(drawn.text_of([WEB, ANY]).encode())
+        mine = [parts.Clipped(it, 0, parts.of_rule(it)) for it in rules]
+        self.addCleanup(setattr, parts, "MOST_BYTES", parts.MOST_BYTES)
+        parts.MOST_BYTES = 60
+        with self.assertRaises(answers.Refusal) as raised:
+            parts.rule_file(4, parts.WHOLE, mine, False)
+        self.assertIn(raised.exception.code, parts.TOO_LARGE)
+
+    def test_the_greatest_table_is_asked_for_first(self):
+        asked = []
+        search = parts.Search(4, [rule_file.read_rules(drawn.text_of([WEB, ANY]).encode())[0]],
+                              lambda *words: asked.append(words[-1]))
+        search.run()
+        self.assertEqual((asked, answers.words_more(given(), True)), ([True], ["max-words=67108864"]))
+        self.assertEqual(answers.words_more(given(max_words=600), True), ["max-words=600"])
+
+
 class Parts(unittest.TestCase):
     def test_the_pieces_of_a_cut_are_the_part_and_disjoint(self):
         draw = drawn.chances(13)

@@ -35,7 +35,7 @@ def tool(name, *words, **more):
     done = subprocess.run([sys.executable, str(TOP / "tools" / name), *map(str, words), *own], stdout=subprocess.PIPE,
                           stderr=subprocess.PIPE, env=env, **more)
     said = done.stderr.decode()
-    return done.returncode, done.stdout.decode(), UNPROVED.sub("", said) if own else said
+    return done.returncode, done.stdout.decode(errors="replace"), UNPROVED.sub("", said) if own else said
 
 
 def given(**more):
