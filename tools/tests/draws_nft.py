@@ -157,6 +157,34 @@ def forwarding(draw, text):
     return made(drawn_objects(draw, "forward"), "forward", text)
 
 
+# Where other base chains stand: the family, the hook and the priority.
+PLACES = (("ip", "prerouting", -300), ("inet", "prerouting", -150), ("ip6", "prerouting", -200), ("netdev", "ingress", 0),
+          ("inet", "ingress", -10), ("inet", "input", 0), ("ip", "output", -300), ("ip", "forward", -1),
+          ("ip6", "forward", 1), ("inet", "forward", 200), ("ip", "postrouting", -150), ("inet", "postrouting", 300),
+          ("netdev", "egress", 0))
+# What their rules say, by the family of their packets.
+SAID = {"ip": ("ip saddr 10.1.0.0/16", "ip daddr != 10.1.2.3", "meta l4proto tcp"),
+        "ip6": ("ip6 saddr 2001:db8::/32", "meta l4proto udp"),
+        "inet": ("ip saddr 10.1.2.4", "meta nfproto ipv6", "ip6 daddr 2001:db8::1", "ct state invalid",
+                 'iifname != "eth0"', 'meta protocol ip'),
+        "netdev": ("ip saddr 10.1.0.0/16", "tcp dport 22", "meta protocol ip6")}
+DONE = ("accept", "accept", "return", "continue", "counter", "meta mark set 1", "jump more", "goto more", "drop")
+
+
+def beside(draw):
+    """Commands that make other base chains, of which some may drop packets that are forwarded."""
+    for number, (family, hook, priority) in enumerate(draw.sample(PLACES, draw.randrange(1, 4))):
+        table = f"{family} other{number}"
+        device = ' device "eth0"' if hook == "ingress" else ' device "eth1"' if hook == "egress" else ""
+        policy = draw.choice(["accept"] * 5 + ["drop"])
+        yield f"add table {table}"
+        yield (f"add chain {table} base {{ type filter hook {hook}{device} priority {priority}; policy {policy}; }}")
+        yield f"add chain {table} more"
+        for chain in ("base", "base", "more"):
+            done = draw.choice(DONE[:6] + DONE[-1:] if chain == "more" else DONE)
+            yield f"add rule {table} {chain} {draw.choice(SAID[family])} {done}"
+
+
 def draw(draw):
     """A ruleset that is shipped or drawn."""
     if draw.random() < 0.3:
