@@ -138,7 +138,6 @@ def aside_of(line, table, given):
     except CantSay as said:
         return Aside(line.number, line.text, f"it can't be read, in the table {table}: {said.reason}", True), None
     if not reading.reason and not reading.match.boxes:
-        # It matches nothing, under what is assumed.
         return None, None
     untracked = read.target == "NOTRACK" or read.target == "CT" and "--notrack" in line.words
     if read.target in iptables_options.CHANGING:
@@ -165,9 +164,15 @@ def asides_of_chain(declared, table, name, done, given):
         done.add(here)
 
 
-def asides_of(tables, chosen, chain, given):
-    """What other tables do to packets that come to a chain: of a family, and as it is assumed."""
-    found, way = [], WAYS.get(chain, ())
+def asides_of(tables, chosen, chain, family):
+    """What other tables do to packets of a family that come to a chain.
+
+    What is assumed isn't asked there: before routing packets have no interface by which they leave, and before the table
+    of connections no state.
+    """
+    found, way, given = [], WAYS.get(chain, ()), (family, assume.NOTHING)
+    if set(tables) == {chosen}:
+        found.append(Aside(0, "", "other tables weren't in this list, so whether one drops isn't known", False))
     for table, declared in tables.items():
         done = set()
         for name in (it for it in declared if it in way and (table, it) != (chosen, chain) and it in BASE[table]):
@@ -205,6 +210,14 @@ def only_chain(chains):
     raise CantSay(f"which chain is meant isn't said: --chain {' or --chain '.join(based)}")
 
 
+def lacking(chain, given):
+    """Refuses an assumption on an interface that the packets of a chain lack."""
+    if chain in ("OUTPUT", "POSTROUTING") and given.inward:
+        raise CantSay(f"in= is assumed, and the packets of {chain} come by no interface")
+    if chain in ("INPUT", "PREROUTING") and given.outward:
+        raise CantSay(f"out= is assumed, and the packets of {chain} leave by no interface that is known there")
+
+
 def convert(lines, options):
     """The chains of the table, the chain that is meant and its family, beside what other tables do."""
     tables, name = Tables(lines).tables, options.table or "filter"
@@ -213,4 +226,5 @@ def convert(lines, options):
     family, given = family_of(lines, options.family), assume.of(options)
     chains = chains_of(tables[name], (family, given), options.lenient)
     chain = options.chain or only_chain(chains)
-    return Read(chains, chain, [family]).beside(asides_of(tables, name, chain, (family, given)))
+    lacking(chain, given)
+    return Read(chains, chain, [family]).beside(asides_of(tables, name, chain, family))

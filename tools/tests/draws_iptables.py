@@ -109,4 +109,8 @@ def draw(draw):
         file, family, chain, text = draw.choice(SHIPPED)
         return made((DATA / file).read_text().rstrip("\n").split("\n"), family, chain, text)
     family, chain = draw.choice([4, 4, 6]), draw.choice(["INPUT", "FORWARD"])
-    return made(drawn_lines(draw, family, chain), family, chain, draw.choice(ASSUMED))
+    assumed = draw.choice(ASSUMED)
+    if chain == "INPUT":
+        # Its packets leave by no interface, so that none is assumed.
+        assumed = ",".join(part for part in assumed.split(",") if not part.startswith("out="))
+    return made(drawn_lines(draw, family, chain), family, chain, assumed)

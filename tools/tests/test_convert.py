@@ -95,15 +95,19 @@ class Convert(unittest.TestCase):
         self.assertEqual(done.lines[1], "# Assumed: in=eth0,state=new,local=192.0.2.10.")
 
     def test_a_closed_pipe_is_no_traceback(self):
-        for form, file in (("iptables", "gateway6.ip6tables-save"), ("classbench-trace", "sample.trace")):
+        unseen = "other tables weren't in this list, so whether one drops isn't known"
+        for form, file, told in (("iptables", "gateway6.ip6tables-save",
+                                  f"convert: {DATA / 'gateway6.ip6tables-save'}: {unseen}\n"),
+                                 ("classbench-trace", "sample.trace", "")):
             reading, writing = os.pipe()
             os.close(reading)
             done = subprocess.run([str(CONVERT), form, str(DATA / file), "--unproved"], stdout=writing, stderr=subprocess.PIPE, env=OWN)
             os.close(writing)
-            self.assertEqual((done.returncode, UNPROVED.sub("", done.stderr.decode())), (1, ""))
+            self.assertEqual((done.returncode, UNPROVED.sub("", done.stderr.decode())), (1, told))
 
     def test_a_rule_file_is_utf_8_whatever_the_terminal_has(self):
         text = "*filter\n:INPUT DROP [0:0]\n-A INPUT -s 10.0.0.1 -m comment --comment \"\u2192\" -j ACCEPT\nCOMMIT\n"
+        text += "*raw\nCOMMIT\n"
         done = subprocess.run([str(CONVERT), "iptables", "--unproved", "-"], input=text.encode(), stdout=subprocess.PIPE,
                               stderr=subprocess.PIPE, env={**OWN, "PYTHONIOENCODING": "ascii"})
         self.assertEqual((done.returncode, UNPROVED.sub("", done.stderr.decode())), (0, ""))

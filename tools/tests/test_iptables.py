@@ -116,7 +116,7 @@ TAKEN = [
 IDLE = ("-m limit --limit 5/min -j LOG --log-prefix \"x \"", "-i eth0",
         "-m conntrack --ctstate NEW -j MARK --set-mark 1", "-s 10.0.0.0/8",
         "-i eth0 -j counted", "-m recent --set --name x")
-ASSUMED = assume.parse("in=eth0,out=eth1,state=new,local=10.0.0.1")
+ASSUMED = assume.parse("in=eth0,state=new,local=10.0.0.1")
 OTHERS = ("*raw\n:PREROUTING ACCEPT [0:0]\n{}COMMIT\n*nat\n:PREROUTING ACCEPT [0:0]\n"
           "-A PREROUTING -p tcp -j DNAT --to-destination 10.0.0.9\nCOMMIT\n")
 
@@ -192,10 +192,26 @@ class Iptables(unittest.TestCase):
         dropping = OTHERS.format("").replace("ACCEPT", "DROP", 1) + ONE.format("-s 10.0.0.1 -j DROP")
         self.assertIn("its policy drops", self.refused(dropping).reason)
 
-    def test_other_tables_that_match_nothing_as_it_is_assumed_end_nothing(self):
-        text = OTHERS.format("-A PREROUTING -i eth9 -j DROP\n") + ONE.format("-s 10.0.0.1 -j DROP")
-        self.assertIn("may drop packets", self.refused(text).reason)
-        convert("iptables", text, assume=ASSUMED)
+    def test_what_is_assumed_is_not_asked_of_other_tables(self):
+        # Before routing `! -o eth0` matches each packet, whatever is assumed of its way out.
+        for options, chain, assumed in (("-i eth9", "INPUT", "in=eth0"), ("! -o eth0", "FORWARD", "out=eth0"),
+                                        ("-m state --state INVALID", "FORWARD", "state=new")):
+            lines = f":one - [0:0]\n-A PREROUTING -j one\n-A one {options} -j DROP\n"
+            text = OTHERS.format(lines) + ONE.format("-s 10.0.0.1 -j DROP").replace("INPUT", chain)
+            said = self.refused(text, assume=assume.parse(assumed))
+            self.assertIn("may drop packets in the table raw", said.reason)
+            self.assertEqual(said.number, 5)
+
+    def test_a_list_of_one_table_tells_that_others_were_not_seen(self):
+        for text, unseen in ((ONE, True), (OTHERS.format("") + ONE, False)):
+            done = converted(options_of("iptables", "-"), text.format("-s 10.0.0.1 -j DROP"))
+            self.assertEqual(any("other tables weren't in this list" in note[2] for note in done.notes), unseen)
+
+    def test_an_interface_that_packets_lack_is_not_assumed(self):
+        for chain, assumed in (("INPUT", "out=eth0"), ("OUTPUT", "in=eth0")):
+            text = ONE.format("-s 10.0.0.1 -j DROP").replace("INPUT", chain)
+            said = self.refused(text, assume=assume.parse(assumed))
+            self.assertIn(f"the packets of {chain}", said.reason)
 
     def test_what_is_left_out_is_told(self):
         text = ONE.replace("-A INPUT {}",
