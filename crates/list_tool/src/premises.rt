@@ -1,6 +1,6 @@
 //! What the rules of a list presuppose of packets, as comments.
 
-ghost use Rattle.std.specs.Prelude.{◌≡◌, map, IfOk};
+ghost use Rattle.std.specs.Prelude.{◌≡◌, ◌++◌, ◌∷◌, [], map, IfOk, OnOk};
 ghost use Rattle.printed_lists.specs.Listed.{Comment, line_views};
 ghost use Rattle.list_tool.specs.Premises.{assumed_text, data_text, fragments_text, headers_text};
 ghost use Rattle.list_tool.specs.Premises.{premises, subject_text};
@@ -22,14 +22,22 @@ pub(crate) fn premises<'a>(
 {
     let form = request.form;
     let mut lines = Vec::new(alloc);
-    lines.push(ListLine::Comment(subject_text(form)))?;
-    lines.push(ListLine::Comment(request.chain.as_bytes()))?;
-    lines.push(ListLine::Comment(b"Of each of them this is assumed:"))?;
-    lines.push(ListLine::Comment(assumed_text(request.options.assumed)))?;
-    lines.push(ListLine::Comment(headers_text(form)))?;
-    lines.push(ListLine::Comment(fragments_text(form)))?;
-    lines.push(ListLine::Comment(data_text(form, request.options.answers)))?;
+    push_comment(&mut lines, subject_text(form))?;
+    push_comment(&mut lines, request.chain.as_bytes())?;
+    push_comment(&mut lines, b"Of each of them this is assumed:")?;
+    push_comment(&mut lines, assumed_text(request.options.assumed))?;
+    push_comment(&mut lines, headers_text(form))?;
+    push_comment(&mut lines, fragments_text(form))?;
+    push_comment(&mut lines, data_text(form, request.options.answers))?;
     Ok(lines)
+}
+
+/// Puts a comment after the others.
+fn push_comment<'a>(lines: &mut Vec<ListLine<'a>>, text: &'a [u8]) -> Result<(), AllocError>
+    ensures { OnOk result
+        (line_views lines.new.items ≡ line_views lines.old.items ++ Comment text.now ∷ []) }
+{
+    lines.push(ListLine::Comment(text))
 }
 
 /// The chain or the list whose name stands in the next comment.

@@ -10,4 +10,4 @@ abbrev pub invariant-loop-place : goal.invariant-loop-place
 invariant-loop-place l =
     Writes (commented l.form (map (λ text. text.now) l.texts) l.by_line l.place) l.rules l.place
     (line_views l.lines.items)
-    (line_views l.head.items ++ commented l.form (map (λ text. text.now) l.texts) l.by_line 0 l.rules)
+    (line_views l.fn.head.items ++ commented l.form (map (λ text. text.now) l.texts) l.by_line 0 l.rules)
