@@ -258,7 +258,8 @@ class Asking(unittest.TestCase):
             (code, printed, said), _ = self.convert("", "aclc-lists: list: line 6: bad address\\n", 3, *words, text=text)
             self.assertEqual((code, printed), (3, ""))
             self.assertIn("fw: aclc-lists: list: line 6: bad address\n    --unproved reads it", said)
-        (code, printed, said), _ = self.convert("", "aclc-lists: list: line 6: bad address\\n", 3, "--unproved")
+        shown = "aclc-lists: list: line 6: bad address\\n  -A INPUT -s ?[2J -j DROP\\n"
+        (code, printed, said), _ = self.convert("", shown, 3, "--unproved")
         self.assertEqual(code, 0)
         self.assertIn("read by this tool's own reader, which isn't proved: aclc-lists: list: line 6: bad address", said)
         self.assertTrue(printed.startswith("# Made by aclc convert iptables, unproved, of fw, INPUT."), printed)

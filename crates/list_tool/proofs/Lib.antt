@@ -5,3 +5,4 @@ pub mod Endings
 pub mod Texts
 pub mod Asked
 pub mod Lines
+pub mod Passing

@@ -14,8 +14,8 @@ max_shown = 100
 -- a longer text ends with two dots
 abbrev pub shown : List ℕ → List ℕ
 shown text =
-    map shown_byte (take max_shown text)
-    ++ (if nat_lt max_shown (length text) then codes ".." else [])
+    if nat_lt max_shown (length text) then map shown_byte (take max_shown text) ++ codes ".."
+    else map shown_byte text
 
 -- the line of a number, from 1
 abbrev pub line_at : List ℕ → ℕ → Option (List ℕ)

@@ -37,7 +37,8 @@ fn push_comment<'a>(lines: &mut Vec<ListLine<'a>>, text: &'a [u8]) -> Result<(),
     ensures { OnOk result
         (line_views lines.new.items ≡ line_views lines.old.items ++ Comment text.now ∷ []) }
 {
-    lines.push(ListLine::Comment(text))
+    lines.push(ListLine::Comment(text))?;
+    Ok(())
 }
 
 /// The chain or the list whose name stands in the next comment.
