@@ -1,4 +1,5 @@
 pub mod Tables
+pub mod SavedTables
 pub mod Options
 pub mod Stops
 pub mod Quotes
@@ -11,5 +12,6 @@ pub mod Reading
 pub mod Reached
 pub mod Table
 pub mod TableExamples
+pub mod SavedExamples
 pub mod Joined
 pub mod NoPart

@@ -38,7 +38,7 @@ use Rattle.iptables_reader.specs.declared.reading.Rows.TheVariants as rows
 use Rattle.iptables_reader.specs.Chains.{RuleSetting, place_of}
 use Rattle.iptables_reader.specs.Options.{match_named, verdict_named}
 use Rattle.iptables_reader.specs.Stops.{◌>>=◌, taken}
-use Rattle.iptables_reader.specs.Tables.{answer_table, match_table, owner_in, target_table}
+use Rattle.iptables_reader.specs.Tables.{answer_table, match_table, owner_in, target_in}
 use Rattle.iptables_reader.specs.Values.{are_states, has_state, port_spans, protocol_of}
 
 -- a value, which may stand after `!`
@@ -164,10 +164,13 @@ with_met negated None kind reading = with_cause kind reading
 with_met negated (Some met) kind reading =
     record reading { never = reading.never || (if negated then met else not met) }
 
--- packets of OUTPUT come by no interface, and those of INPUT leave by none
+-- packets of OUTPUT and POSTROUTING come by no interface, and those of PREROUTING and INPUT leave by
+-- none that is known there
 abbrev pub lacks_interface : List ℕ → End → Bool
-lacks_interface chain end.Source = bytes_eq chain (codes "OUTPUT")
-lacks_interface chain end.Destination = bytes_eq chain (codes "INPUT")
+lacks_interface chain end.Source =
+    bytes_eq chain (codes "OUTPUT") || bytes_eq chain (codes "POSTROUTING")
+lacks_interface chain end.Destination =
+    bytes_eq chain (codes "INPUT") || bytes_eq chain (codes "PREROUTING")
 
 -- `+` stands at the end of a name for whatever follows there
 abbrev pub plus : ℕ
@@ -183,6 +186,12 @@ abbrev pub interface_met : List ℕ → End → List ℕ → Option Bool
 interface_met assumed which word =
     option_map (meets_interface plus word)
     (value_in (interface_key which) (parts_of comma assumed))
+
+-- an interface is assumed that packets of a chain lack
+abbrev pub assumes_lacking : List ℕ → List ℕ → End → Bool
+assumes_lacking name assumed which =
+    lacks_interface name which
+    && is_some (value_in (interface_key which) (parts_of comma assumed))
 
 -- an interface
 abbrev pub with_interface : RuleSetting → Reading → End → OptionValue → Result Reading LineKind
@@ -290,7 +299,7 @@ abbrev pub with_named_jump : RuleSetting → Reading → List ℕ → Option Ver
 with_named_jump setting reading word (Some said) =
     Ok (with_act (act.Decide said) rows.Nothing reading)
 with_named_jump setting reading word None =
-    with_other_jump setting reading word (owner_in word target_table)
+    with_other_jump setting reading word (target_in setting.table word)
 
 -- a target, by its name
 abbrev pub with_jump : RuleSetting → Reading → List ℕ → Result Reading LineKind

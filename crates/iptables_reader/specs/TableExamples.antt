@@ -353,7 +353,7 @@ unfolding with_lines digits match_table target_table protocol_table state_table
 not_declared = refl
 
 -- faults of tables
-another_table : chains_of by_line [] forward_chain (codes "*nat\n")
+another_table : chains_of by_line [] forward_chain (codes "*broute\n")
     ≡ Err (record { line = 1; kind = kind.OtherTable })
 unfolding with_lines digits match_table target_table protocol_table state_table
     assumed_state_table answer_table
@@ -391,3 +391,15 @@ no_policy : said_by (codes ":INPUT - [0:0]") ≡ faulty kind.BadPolicy
 unfolding with_lines digits match_table target_table protocol_table state_table
     assumed_state_table answer_table
 no_policy = refl
+
+a_table_that_isnt_there : chains_of by_line [] forward_chain (codes "*nat\nCOMMIT\n")
+    ≡ Err (record { line = 2; kind = kind.NoFilter })
+unfolding with_lines digits match_table target_table protocol_table state_table
+    assumed_state_table answer_table
+a_table_that_isnt_there = refl
+
+a_target_of_nat : said_by (codes "-A FORWARD -j DNAT --to-destination 10.0.0.9")
+    ≡ faulty kind.BadTarget
+unfolding with_lines digits match_table target_table protocol_table state_table
+    assumed_state_table answer_table
+a_target_of_nat = refl

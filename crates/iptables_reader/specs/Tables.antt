@@ -2,9 +2,11 @@
 -- and targets (iptables-extensions(8)), in the order in which iptables-save prints them. Each
 -- option stands there with how many words follow it, where that isn't one.
 use Rattle.std.specs.Prelude.{ℕ, ◌+◌, ◌-◌, ◌^◌, ◌==◌, Bool, false, if◌then◌else◌, codes, min}
-use Rattle.std.specs.Prelude.{List, [], ◌∷◌, ◌++◌, drop, Option, Some, None}
+use Rattle.std.specs.Prelude.{List, [], ◌∷◌, ◌++◌, drop, is_some, Option, Some, None}
 use Rattle.std.specs.Str.{bytes_eq}
 use Rattle.text_scan.specs.Parts.{slash, cut_at, words_of}
+use Rattle.iptables_reader.specs.declared.saved_tables.SavedTable.{SavedTable}
+use Rattle.iptables_reader.specs.declared.saved_tables.SavedTable.TheVariants.{Filter, Raw, Mangle, Nat, Security}
 use Rattle.iptables_reader.specs.declared.tables.Listed.{Listed}
 use Rattle.list_packets.specs.Values.{plain_number}
 use Rattle.field_defs.specs.declared.field.Family.{Family}
@@ -72,7 +74,14 @@ target_table =
     ++ codes "--timeout --map-mark/0 --map-prio/0 --map-queue/0 LED --led-trigger-id "
     ++ codes "--led-delay --led-always-blink/0 RATEEST --rateest-name --rateest-interval "
     ++ codes "--rateest-ewmalog TOS --set-tos --and-tos --or-tos --xor-tos DSCP --set-dscp "
-    ++ codes "--set-dscp-class TTL --ttl-set --ttl-dec --ttl-inc HL --hl-set --hl-dec --hl-inc"
+    ++ codes "--set-dscp-class TTL --ttl-set --ttl-dec --ttl-inc HL --hl-set --hl-dec --hl-inc "
+    ++ codes "DNAT --to-destination --random/0 --persistent/0 SNAT --to-source --random/0 "
+    ++ codes "--random-fully/0 --persistent/0 MASQUERADE --to-ports --random/0 "
+    ++ codes "--random-fully/0 REDIRECT --to-ports --random/0 NETMAP --to"
+
+-- those of the table `nat` alone, which change addresses and ports
+abbrev pub nat_targets : List ℕ
+nat_targets = codes "DNAT SNAT MASQUERADE REDIRECT NETMAP"
 
 -- what REJECT of a family may answer, besides a reset
 unfoldable pub answer_table : Family → List ℕ
@@ -127,6 +136,19 @@ option_from name place (word ∷ words) =
     then listed_or (place_after place) (count_said name word)
     (option_from name (place_after place) words)
     else None
+
+-- a target stands in no rule of a table
+abbrev pub is_elsewhere : SavedTable → List ℕ → Bool
+is_elsewhere Nat word = false
+is_elsewhere Filter word = is_some (owner_in word nat_targets)
+is_elsewhere Raw word = is_some (owner_in word nat_targets)
+is_elsewhere Mangle word = is_some (owner_in word nat_targets)
+is_elsewhere Security word = is_some (owner_in word nat_targets)
+
+-- the place after the name of a target that may stand in a rule of a table
+abbrev pub target_in : SavedTable → List ℕ → Option ℕ
+target_in table word =
+    if is_elsewhere table word then None else owner_in word target_table
 
 -- an option of a match or target, from a place on after its name
 abbrev pub option_in : List ℕ → ℕ → List ℕ → Option Listed

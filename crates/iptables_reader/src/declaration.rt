@@ -4,11 +4,12 @@ ghost use Rattle.std.specs.Prelude.{◌≡◌, MatchResult, Ok};
 ghost use Rattle.text_scan.specs.Parts.{words_of};
 ghost use Rattle.iptables_reader.specs.Options.{is_target};
 ghost use Rattle.iptables_reader.specs.Stops.{Refuses};
-ghost use Rattle.iptables_reader.specs.Table as table;
+ghost use Rattle.iptables_reader.specs.Table as spec;
 
 use crate::answers::{Asked, answer_of};
 use crate::fault::{LineKind, Stop};
 use crate::options::{Verdict, verdict_named};
+use crate::saved_tables::{SavedTable, is_base};
 use crate::tables::{owner_in, targets};
 use crate::values::is_counters;
 use crate::words::{Words, is};
@@ -16,9 +17,9 @@ use crate::words::{Words, is};
 /// The name of the chain that a text declares, and the word of its policy.
 pub(crate) fn declaration(text: &[u8]) -> Result<(&[u8], &[u8]), Stop>
     ensures { MatchResult result
-        (λ said. table.declaration_of (words_of text.now)
+        (λ said. spec.declaration_of (words_of text.now)
         ≡ Ok (record { name = said.0.now; word = said.1.now }))
-        (Refuses (table.declaration_of (words_of text.now))) }
+        (Refuses (spec.declaration_of (words_of text.now))) }
 {
     let mut words = Words::of(text);
     let said = (words.next(), words.next(), words.next(), words.next());
@@ -31,18 +32,19 @@ pub(crate) fn declaration(text: &[u8]) -> Result<(&[u8], &[u8]), Stop>
     Ok((name, word))
 }
 
-/// The answer of a chain's policy, which chains that rules lead to don't have.
+/// The answer of the policy of a table's chain, which chains that rules lead to don't have.
 pub(crate) fn policy(
     asked: Asked,
     number: u32,
+    table: SavedTable,
     name: &[u8],
     word: &[u8],
 ) -> Result<Option<u32>, Stop>
     ensures { MatchResult result
-        (λ policy. table.policy_of asked number name.now word.now ≡ Ok policy)
-        (Refuses (table.policy_of asked number name.now word.now)) }
+        (λ policy. spec.policy_of asked number table name.now word.now ≡ Ok policy)
+        (Refuses (spec.policy_of asked number table name.now word.now)) }
 {
-    if is_base(name) {
+    if is_base(table, name) {
         let verdict = policy_named(word).ok_or(Stop::Faulty(LineKind::BadPolicy))?;
         return Ok(Some(answer_of(asked.answers, number, verdict)));
     }
@@ -59,16 +61,9 @@ fn is_target(word: &[u8]) -> bool
     verdict_named(word).is_some() || owner_in(targets(), word).is_some()
 }
 
-/// Whether packets come to the chain of a name by themselves.
-fn is_base(name: &[u8]) -> bool
-    ensures { result ≡ table.is_base name.now }
-{
-    is(name, b"INPUT") || is(name, b"FORWARD") || is(name, b"OUTPUT")
-}
-
 /// The verdict of a policy.
 fn policy_named(word: &[u8]) -> Option<Verdict>
-    ensures { result ≡ table.policy_named word.now }
+    ensures { result ≡ spec.policy_named word.now }
 {
     if is(word, b"ACCEPT") {
         Some(Verdict::Accept)

@@ -23,8 +23,8 @@ impl From<AllocError> for IptablesFault {
     }
 }
 
-/// A faulty line of a file, by its number from 1, and its fault. A file that is too long has the
-/// line 0, and one that ends too early its last line.
+/// A faulty line of a file, by its number from 1, and its fault. A file that is too long, and an
+/// assumption, have the line 0, and a file that ends too early its last line.
 #[derive(Clone, Copy)]
 pub struct LineFault {
     pub line: u32,
@@ -38,12 +38,18 @@ pub enum LineKind {
     FileTooLong,
     /// The line stands in no table, and begins none.
     NoTable,
-    /// The line begins another table than `filter`.
+    /// The line begins a table that isn't known.
     OtherTable,
-    /// The line stands after the end of the table, and is no comment.
+    /// The table came before.
     SecondTable,
-    /// The file ends before a table begins, or before its COMMIT.
+    /// The file ends before the COMMIT of a table.
     NoCommit,
+    /// The file has no table `filter`.
+    NoFilter,
+    /// By this line another table than `filter` may drop packets of the chain.
+    MayDrop,
+    /// An interface is assumed that packets of the chain lack: `in` of OUTPUT, or `out` of INPUT.
+    LacksInterface,
     /// The line declares no chain: it isn't `:`, a name, a policy and counters, or the name is that
     /// of a target.
     BadChain,

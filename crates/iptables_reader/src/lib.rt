@@ -18,6 +18,7 @@
 //! | `chain` | a chain: its name, its policy and its rules |
 //! | `places`, `named_chains` | chains, found by their names |
 //! | `declaration` | lines that declare chains |
+//! | `saved_tables` | the tables of a save, and the way of packets through them |
 //! | `table` | a list, line by line, and its chains |
 //! | `reached` | the lines that packets of a chain may come to |
 //! | `fault` | the kinds of faults, and the line of the first one |
@@ -40,6 +41,7 @@ mod places;
 mod quotes;
 mod reached;
 mod reading;
+mod saved_tables;
 mod setting;
 mod table;
 mod tables;
@@ -49,4 +51,5 @@ mod words;
 pub use answers::{Answers, Asked};
 pub use chain::SavedChain;
 pub use fault::{IptablesFault, LineFault, LineKind};
+pub use saved_tables::has_other_tables;
 pub use table::{MAX_LIST, chain_place, chains_alone, read_chains};

@@ -8,7 +8,7 @@ use crate::fault::{LineKind, Stop};
 use crate::options::{ANY_OPTIONS, Match, RuleOption, Verdict, match_named, verdict_named};
 use crate::reading::{Act, Reading, Rows, Value};
 use crate::setting::Setting;
-use crate::tables::{answers, matches, owner_in, targets};
+use crate::tables::{answers, matches, owner_in, target_in};
 use crate::values::{are_states, has_state, port_spans, protocol};
 use crate::words::is;
 use field_defs::Family;
@@ -262,7 +262,7 @@ impl Reading {
             self.put_act(Act::Decide(verdict), Rows::Nothing);
             return Ok(());
         }
-        if let Some(place) = owner_in(targets(), word) {
+        if let Some(place) = target_in(setting.table, word) {
             self.put_act(Act::Pass, Rows::Target(place));
             return Ok(());
         }
@@ -368,8 +368,25 @@ fn lacks_interface(chain: &[u8], end: End) -> bool
     ensures { result ≡ values.lacks_interface chain.now end }
 {
     match end {
-        End::Source => is(chain, b"OUTPUT"),
-        End::Destination => is(chain, b"INPUT"),
+        End::Source => is(chain, b"OUTPUT") || is(chain, b"POSTROUTING"),
+        End::Destination => is(chain, b"INPUT") || is(chain, b"PREROUTING"),
+    }
+}
+
+/// Whether an interface is assumed that packets of a chain lack.
+pub(crate) fn assumes_lacking(name: &[u8], assumed: &[u8], end: End) -> bool
+    ensures { result ≡ values.assumes_lacking name.now assumed.now end }
+{
+    lacks_interface(name, end) && value_in(assumed, interface_key(end)).is_some()
+}
+
+/// The key of an interface among what is assumed.
+fn interface_key(end: End) -> &'static [u8]
+    ensures { result.now ≡ values.interface_key end }
+{
+    match end {
+        End::Source => b"in".as_slice(),
+        End::Destination => b"out".as_slice(),
     }
 }
 
@@ -377,11 +394,7 @@ fn lacks_interface(chain: &[u8], end: End) -> bool
 fn interface_met(assumed: &[u8], end: End, word: &[u8]) -> Option<bool>
     ensures { result ≡ values.interface_met assumed.now end word.now }
 {
-    let key = match end {
-        End::Source => b"in".as_slice(),
-        End::Destination => b"out".as_slice(),
-    };
-    match value_in(assumed, key) {
+    match value_in(assumed, interface_key(end)) {
         Some(name) => Some(meets_interface(b'+', word, name)),
         None => None,
     }

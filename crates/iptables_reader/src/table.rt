@@ -3,7 +3,7 @@
 ghost use Rattle.std.specs.Prelude.{◌≡◌, ◌⊎◌, ◌<◌, false, length, map, nat_lt, IfErr, IfOk, IfSome, Ok, Err};
 ghost use Rattle.iptables_reader.specs.Chains.{place_of};
 ghost use Rattle.iptables_reader.specs.Stops.{Tells};
-ghost use Rattle.iptables_reader.specs.Table.{begins, chains_of, is_ruling, is_skipped, list_of, max_list};
+ghost use Rattle.iptables_reader.specs.Table.{assumes_any_lacking, begins, chains_of, is_ruling, is_skipped, list_of, max_list};
 ghost use Rattle.iptables_reader.specs.declared.fault.LineFault.{LineFault};
 
 use crate::answers::Asked;
@@ -12,11 +12,14 @@ use crate::declaration::{declaration, policy};
 use crate::fault::{IptablesFault, LineFault, LineKind, Stop};
 use crate::head::head;
 use crate::named_chains::NamedChains;
+use crate::option_values::assumes_lacking;
 use crate::reached::unsaid_from;
 use crate::reading::options;
+use crate::saved_tables::{SavedTable, drops, is_drop, is_on_way, table_bit, table_named};
 use crate::setting::Setting;
 use crate::words::is;
 use list_chains::Chain;
+use list_packets::End;
 use std::alloc::{AllocError, Global};
 use std::marker::Model;
 use text_scan::split_line;
@@ -27,14 +30,12 @@ pub const MAX_LIST: usize = 16_777_216;
 /// How far a list was read.
 #[derive(Clone, Copy)]
 pub(crate) enum Stage {
-    /// Its table wasn't begun.
-    Before,
+    /// No table is open.
+    Outside,
     /// Chains are declared.
     Declaring,
     /// Rules follow.
     Ruling,
-    /// The table ended.
-    After,
 }
 
 /// What was read of a list. Contracts see a record without the memory.
@@ -43,10 +44,17 @@ pub(crate) struct Table<'a> {
     alloc: Global,
     asked: Asked,
     assumed: &'a [u8],
+    /// The name of the chain whose packets are asked for.
+    name: &'a [u8],
     /// The number of the last line that was read.
     number: u32,
     stage: Stage,
+    /// The table that is open, or was last, and the bits of those that came.
+    last: SavedTable,
+    given: u32,
+    /// The chains of `filter`, and those of the last other table.
     chains: NamedChains,
+    others: NamedChains,
 }
 
 impl<'a> Model for Table<'a> {
@@ -57,9 +65,13 @@ impl<'a> Model for Table<'a> {
     ghost view = { λ table. record {
       asked = table.asked;
       assumed = table.assumed.now;
+      name = table.name.now;
       number = table.number;
       stage = table.stage;
+      last = table.last;
+      given = table.given;
       chains = table.chains;
+      others = table.others;
     } };
 }
 
@@ -69,16 +81,20 @@ impl<'a> Table<'a> {
     ghost use Rattle.iptables_reader.specs.Table as table;
 
     /// Nothing was read.
-    fn new(alloc: Global, asked: Asked, assumed: &'a [u8]) -> Table<'a>
-        ensures { result ≡ table.no_table asked assumed.now }
+    fn new(alloc: Global, asked: Asked, assumed: &'a [u8], name: &'a [u8]) -> Table<'a>
+        ensures { result ≡ table.no_table asked assumed.now name.now }
     {
         Table {
             alloc,
             asked,
             assumed,
+            name,
             number: 0,
-            stage: Stage::Before,
+            stage: Stage::Outside,
+            last: SavedTable::Filter,
+            given: 0,
             chains: NamedChains::new(alloc),
+            others: NamedChains::new(alloc),
         }
     }
 
@@ -100,7 +116,8 @@ impl<'a> Table<'a> {
         }
     }
 
-    /// The chains, where the table has ended. Else its last line is at fault.
+    /// The chains, where the last table has ended, and `filter` came. Else the last line is at
+    /// fault.
     fn ended(self) -> Result<Vec<SavedChain>, LineFault>
         ensures chains { IfOk result (λ chains.
             table.ended self.entry self.entry.stage ≡ Ok chains.items) }
@@ -108,10 +125,13 @@ impl<'a> Table<'a> {
             table.ended self.entry self.entry.stage ≡ Err fault) }
     {
         match self.stage {
-            Stage::After => Ok(self.chains.into_chains()),
-            Stage::Before | Stage::Declaring | Stage::Ruling => {
-                Err(self.fault(LineKind::NoCommit))
+            Stage::Outside => {
+                if self.given & table_bit(SavedTable::Filter) == 0 {
+                    return Err(self.fault(LineKind::NoFilter));
+                }
+                Ok(self.chains.into_chains())
             }
+            Stage::Declaring | Stage::Ruling => Err(self.fault(LineKind::NoCommit)),
         }
     }
 
@@ -124,43 +144,78 @@ impl<'a> Table<'a> {
             return Ok(());
         }
         match self.stage {
-            Stage::Before => self.begin(line),
+            Stage::Outside => self.begin(line),
             Stage::Declaring | Stage::Ruling => self.add_inside(line),
-            Stage::After => Err(Stop::Faulty(LineKind::SecondTable)),
         }
     }
 
-    /// The line that begins the table.
+    /// A line that begins a table.
     fn begin(&mut self, line: &[u8]) -> Result<(), Stop>
         ensures made { Makes (table.begun self.old line.now) self.new result }
         ensures number { self.new.number ≡ self.old.number }
     {
-        if is(line, b"*filter") {
-            self.stage = Stage::Declaring;
-            return Ok(());
+        if !begins(b'*', line) {
+            return Err(Stop::Faulty(LineKind::NoTable));
         }
-        if begins(b'*', line) {
-            return Err(Stop::Faulty(LineKind::OtherTable));
-        }
-        Err(Stop::Faulty(LineKind::NoTable))
+        let which = table_named(&line[1..]).ok_or(Stop::Faulty(LineKind::OtherTable))?;
+        self.begin_table(which)
     }
 
-    /// A line of the table: its end, a chain, or a rule.
+    /// A table, which comes once.
+    fn begin_table(&mut self, which: SavedTable) -> Result<(), Stop>
+        ensures made { Makes (table.with_begun self.old which) self.new result }
+        ensures number { self.new.number ≡ self.old.number }
+    {
+        if self.given & table_bit(which) != 0 {
+            return Err(Stop::Faulty(LineKind::SecondTable));
+        }
+        self.stage = Stage::Declaring;
+        self.last = which;
+        self.given |= table_bit(which);
+        self.others = NamedChains::new(self.alloc);
+        Ok(())
+    }
+
+    /// A line of the last table, or its end.
     fn add_inside(&mut self, line: &[u8]) -> Result<(), Stop>
         ensures made { Makes (table.with_inside self.old line.now) self.new result }
         ensures number { self.new.number ≡ self.old.number }
     {
         if is(line, b"COMMIT") {
-            self.stage = Stage::After;
+            self.stage = Stage::Outside;
             return Ok(());
         }
+        match self.last {
+            SavedTable::Filter => self.add_to_filter(line),
+            SavedTable::Raw | SavedTable::Mangle | SavedTable::Nat | SavedTable::Security => {
+                self.add_elsewhere(line)
+            }
+        }
+    }
+
+    /// A line of `filter`: a chain, or a rule.
+    fn add_to_filter(&mut self, line: &[u8]) -> Result<(), Stop>
+        ensures made { Makes (table.with_filter_line self.old line.now) self.new result }
+        ensures number { self.new.number ≡ self.old.number }
+    {
         if begins(b':', line) {
             return self.declare(&line[1..]);
         }
         self.add_rule(line)
     }
 
-    /// A line that declares a chain, after its `:`.
+    /// A line of another table.
+    fn add_elsewhere(&mut self, line: &[u8]) -> Result<(), Stop>
+        ensures made { Makes (table.with_other_line self.old line.now) self.new result }
+        ensures number { self.new.number ≡ self.old.number }
+    {
+        if begins(b':', line) {
+            return self.declare_elsewhere(&line[1..]);
+        }
+        self.add_other_rule(line)
+    }
+
+    /// A line that declares a chain of `filter`, after its `:`.
     fn declare(&mut self, text: &[u8]) -> Result<(), Stop>
         ensures made { Makes (table.with_declaration self.old text.now) self.new result }
         ensures number { self.new.number ≡ self.old.number }
@@ -172,8 +227,51 @@ impl<'a> Table<'a> {
         if self.chains.place_of(name, false).is_some() {
             return Err(Stop::Faulty(LineKind::ChainTwice));
         }
-        let policy = policy(self.asked, self.number, name, word)?;
+        let policy = policy(self.asked, self.number, self.last, name, word)?;
         self.chains.push(self.alloc, name, policy)?;
+        Ok(())
+    }
+
+    /// One of another table, whose policy doesn't drop where packets of the chain come by.
+    fn declare_elsewhere(&mut self, text: &[u8]) -> Result<(), Stop>
+        ensures made { Makes (table.with_other_declaration self.old text.now) self.new result }
+        ensures number { self.new.number ≡ self.old.number }
+    {
+        if is_ruling(self.stage) {
+            return Err(Stop::Faulty(LineKind::LateChain));
+        }
+        let (name, word) = declaration(text)?;
+        if self.others.place_of(name, false).is_some() {
+            return Err(Stop::Faulty(LineKind::ChainTwice));
+        }
+        let policy = policy(self.asked, self.number, self.last, name, word)?;
+        if is_drop(word) && is_on_way(self.last, self.name, name) {
+            return Err(Stop::Faulty(LineKind::MayDrop));
+        }
+        self.others.push(self.alloc, name, policy)?;
+        Ok(())
+    }
+
+    /// A line of a rule of another table, which doesn't drop packets that come by.
+    fn add_other_rule(&mut self, line: &[u8]) -> Result<(), Stop>
+        ensures made { Makes (table.with_other_rule self.old line.now) self.new result }
+        ensures number { self.new.number ≡ self.old.number }
+    {
+        let (place, text) = head(&self.others, line)?;
+        let chain = self.others.name(place);
+        let setting = Setting {
+            alloc: self.alloc,
+            family: self.asked.family,
+            assumed: b"".as_slice(),
+            table: self.last,
+            chains: &self.others,
+            chain,
+        };
+        let reading = options(&setting, text)?;
+        if drops(reading.act) && is_on_way(self.last, self.name, chain) {
+            return Err(Stop::Faulty(LineKind::MayDrop));
+        }
+        self.stage = Stage::Ruling;
         Ok(())
     }
 
@@ -187,6 +285,7 @@ impl<'a> Table<'a> {
             alloc: self.alloc,
             family: self.asked.family,
             assumed: self.assumed,
+            table: self.last,
             chains: &self.chains,
             chain: self.chains.name(place),
         };
@@ -226,8 +325,13 @@ fn begins(byte: u8, line: &[u8]) -> bool
 /// `name`, or a faulty line.
 ///
 /// `bytes` holds the whole list, at most [`MAX_LIST`] bytes. Lines end at LF or CR LF, and the last
-/// one may lack it. Empty lines and comments say nothing. The list has the table `filter` alone:
-/// `*filter`, the chains, their rules, and COMMIT.
+/// one may lack it. Empty lines and comments say nothing. The list has tables, each once, in any
+/// order: `*filter`, the chains, their rules, and COMMIT. The chains are those of `filter`.
+///
+/// The others are `raw`, `mangle`, `nat` and `security`. Their lines are read likewise. It is a
+/// fault if one of them may drop packets of `name`: by the policy DROP, or a rule with DROP or
+/// REJECT, whatever it matches. The chain is one that these packets come to by the hooks of
+/// netfilter, or any that rules lead to. Targets that aren't known are faults.
 ///
 /// Each rule is read from left to right. Its options are those on addresses, protocols and ports,
 /// on interfaces, states and types of addresses, as far as they are assumed, and of targets. Other
@@ -240,9 +344,10 @@ fn begins(byte: u8, line: &[u8]) -> bool
 /// empty; [`is_assumption`](list_packets::is_assumption) tells whether a text is one. If no chain
 /// has the name, all of them are given.
 ///
-/// `Line` comes exactly where the file is too long (line 0), some line is faulty (the first one,
-/// with its first fault), the table doesn't end (the last line), or no rule file says a line that
-/// packets of `name` may come to (the first one), as long as memory lasts. It takes memory for the
+/// `Line` comes exactly where an interface is assumed that packets of `name` lack, or the file is too
+/// long (line 0), some line is faulty (the first one, with its first fault), a table doesn't end or
+/// `filter` isn't there (the last line), or no rule file says a line that packets of `name` may come
+/// to (the first one), as long as memory lasts. It takes memory for the
 /// rules of the chains, for each name twice, and for two marks a chain.
 pub fn read_chains(
     alloc: Global,
@@ -259,7 +364,13 @@ pub fn read_chains(
         → chains_of asked assumed.now name.now bytes.now ≡ Err fault
         → (result ≡ Err (IptablesFault.Line fault)) ⊎ (result ≡ Err IptablesFault.OutOfMemory) }
 {
-    match read_list(alloc, bytes, asked, assumed) {
+    if assumes_any_lacking(name, assumed) {
+        return Err(IptablesFault::Line(LineFault {
+            line: 0,
+            kind: LineKind::LacksInterface,
+        }));
+    }
+    match read_list(alloc, bytes, asked, assumed, name) {
         Ok(chains) => match unsaid_from(alloc, &chains, name)? {
             Some(fault) => Err(IptablesFault::Line(fault)),
             None => Ok(chains),
@@ -268,16 +379,24 @@ pub fn read_chains(
     }
 }
 
-/// All chains of a list, or its first faulty line.
+/// Whether an interface is assumed that packets of a chain lack.
+fn assumes_any_lacking(name: &[u8], assumed: &[u8]) -> bool
+    ensures { result ≡ assumes_any_lacking name.now assumed.now }
+{
+    assumes_lacking(name, assumed, End::Source) || assumes_lacking(name, assumed, End::Destination)
+}
+
+/// All chains of the table `filter` of a list, or the first faulty line.
 fn read_list(
     alloc: Global,
     bytes: &[u8],
     asked: Asked,
     assumed: &[u8],
+    name: &[u8],
 ) -> Result<Vec<SavedChain>, IptablesFault>
     ensures chains { IfOk result
-        (λ chains. list_of asked assumed.now bytes.now ≡ Ok chains.items) }
-    ensures fault { IfErr result (Tells (list_of asked assumed.now bytes.now)) }
+        (λ chains. list_of asked assumed.now name.now bytes.now ≡ Ok chains.items) }
+    ensures fault { IfErr result (Tells (list_of asked assumed.now name.now bytes.now)) }
 {
     if is_too_long(bytes) {
         return Err(IptablesFault::Line(LineFault {
@@ -285,7 +404,7 @@ fn read_list(
             kind: LineKind::FileTooLong,
         }));
     }
-    let mut table = Table::new(alloc, asked, assumed);
+    let mut table = Table::new(alloc, asked, assumed, name);
     let mut left = bytes;
     while let Some((line, rest)) = split_line(left) {
         table.count();

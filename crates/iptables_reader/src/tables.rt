@@ -6,10 +6,11 @@
 
 ghost use Rattle.std.specs.Prelude.{◌≡◌, ◌<◌, drop, length};
 ghost use Rattle.text_scan.specs.Parts.{words_of};
-ghost use Rattle.iptables_reader.specs.Tables.{answer_table, count_said, is_option, match_table};
+ghost use Rattle.iptables_reader.specs.Tables.{answer_table, count_said, is_elsewhere, is_option, match_table};
 ghost use Rattle.iptables_reader.specs.Tables.{option_from, option_in, owner_from, owner_in};
-ghost use Rattle.iptables_reader.specs.Tables.{protocol_table, state_table, target_table};
+ghost use Rattle.iptables_reader.specs.Tables.{protocol_table, state_table, target_in, target_table};
 
+use crate::saved_tables::SavedTable;
 use field_defs::Family;
 use list_packets::plain_number;
 use text_scan::{next_word, split_once};
@@ -95,7 +96,10 @@ pub(crate) fn targets() -> &'static [u8]
     --exist/0 --timeout --map-mark/0 --map-prio/0 --map-queue/0 LED --led-trigger-id \
     --led-delay --led-always-blink/0 RATEEST --rateest-name --rateest-interval \
     --rateest-ewmalog TOS --set-tos --and-tos --or-tos --xor-tos DSCP --set-dscp \
-    --set-dscp-class TTL --ttl-set --ttl-dec --ttl-inc HL --hl-set --hl-dec --hl-inc"
+    --set-dscp-class TTL --ttl-set --ttl-dec --ttl-inc HL --hl-set --hl-dec --hl-inc \
+    DNAT --to-destination --random/0 --persistent/0 SNAT --to-source --random/0 \
+    --random-fully/0 --persistent/0 MASQUERADE --to-ports --random/0 \
+    --random-fully/0 REDIRECT --to-ports --random/0 NETMAP --to"
         .as_slice()
 }
 
@@ -131,6 +135,28 @@ pub(crate) fn owner_in(table: &[u8], name: &[u8]) -> Option<usize>
         left = rest;
     }
     None
+}
+
+/// The place after the name of a target that may stand in a rule of a table.
+pub(crate) fn target_in(table: SavedTable, name: &[u8]) -> Option<usize>
+    ensures { result ≡ target_in table name.now }
+{
+    if is_elsewhere(table, name) {
+        return None;
+    }
+    owner_in(targets(), name)
+}
+
+/// Whether a target stands in no rule of a table: those that change addresses stand in `nat`.
+fn is_elsewhere(table: SavedTable, name: &[u8]) -> bool
+    ensures { result ≡ is_elsewhere table name.now }
+{
+    match table {
+        SavedTable::Nat => false,
+        SavedTable::Filter | SavedTable::Raw | SavedTable::Mangle | SavedTable::Security => {
+            owner_in(b"DNAT SNAT MASQUERADE REDIRECT NETMAP".as_slice(), name).is_some()
+        }
+    }
 }
 
 /// Whether a word is an option.

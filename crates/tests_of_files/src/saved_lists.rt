@@ -1,7 +1,10 @@
 //! Lists as iptables-save and ip6tables-save print them, read and asked for packets.
 
 use field_defs::{Family, ip4_layout, ip6_layout};
-use iptables_reader::{Answers, Asked, IptablesFault, chain_place, chains_alone, read_chains};
+use iptables_reader::{
+    Answers, Asked, IptablesFault, LineFault, LineKind, chain_place, chains_alone,
+    has_other_tables, read_chains,
+};
 use list_chains::rules_of_chains;
 use rule_set::{RuleSet, plain_verdict};
 use std::alloc::Global;
@@ -54,6 +57,77 @@ const SERVER: &str = "*filter\n\
     -A counted -j RETURN\n\
     -A INPUT -m recent --rcheck --seconds 60 --name knock -j ACCEPT\n\
     COMMIT\n";
+
+/// All tables of a machine with containers, as iptables-save of 1.8.9 prints them, without COMMIT of
+/// the last one, `raw`.
+const TABLES: &str = "*filter\n\
+    :INPUT ACCEPT [0:0]\n\
+    :FORWARD DROP [0:0]\n\
+    :OUTPUT ACCEPT [0:0]\n\
+    -A INPUT -p tcp -m tcp --dport 22 -j ACCEPT\n\
+    -A FORWARD -p tcp -m tcp --dport 80 -j ACCEPT\n\
+    COMMIT\n\
+    *security\n\
+    :INPUT ACCEPT [0:0]\n\
+    :FORWARD ACCEPT [0:0]\n\
+    :OUTPUT ACCEPT [0:0]\n\
+    -A INPUT -j ACCEPT\n\
+    COMMIT\n\
+    *nat\n\
+    :PREROUTING ACCEPT [0:0]\n\
+    :INPUT ACCEPT [0:0]\n\
+    :OUTPUT ACCEPT [0:0]\n\
+    :POSTROUTING ACCEPT [0:0]\n\
+    :DOCKER - [0:0]\n\
+    -A PREROUTING -m addrtype --dst-type LOCAL -j DOCKER\n\
+    -A PREROUTING -d 10.1.0.0/16 -j NETMAP --to 10.2.0.0/16\n\
+    -A OUTPUT ! -d 127.0.0.0/8 -m addrtype --dst-type LOCAL -j DOCKER\n\
+    -A POSTROUTING -s 172.17.0.0/16 ! -o docker0 -j MASQUERADE\n\
+    -A POSTROUTING -p tcp -j MASQUERADE --to-ports 1024-2000 --random\n\
+    -A POSTROUTING -p tcp -j SNAT --to-source 10.0.0.1 --random-fully --persistent\n\
+    -A DOCKER -i docker0 -j RETURN\n\
+    -A DOCKER ! -i docker0 -p tcp -m tcp --dport 8080 -j DNAT --to-destination 172.17.0.2:80\n\
+    -A DOCKER -p tcp -m tcp --dport 8082 -j REDIRECT --to-ports 81 --random\n\
+    COMMIT\n\
+    *mangle\n\
+    :PREROUTING ACCEPT [0:0]\n\
+    :INPUT ACCEPT [0:0]\n\
+    :FORWARD ACCEPT [0:0]\n\
+    :OUTPUT ACCEPT [0:0]\n\
+    :POSTROUTING ACCEPT [0:0]\n\
+    -A PREROUTING -j MARK --set-xmark 0x7/0xffffffff\n\
+    -A PREROUTING -j CONNMARK --save-mark --nfmask 0xffffffff --ctmask 0xffffffff\n\
+    -A FORWARD -p tcp -m tcp --tcp-flags SYN,RST SYN -j TCPMSS --clamp-mss-to-pmtu\n\
+    -A POSTROUTING -p udp -m udp --dport 68 -j CHECKSUM --checksum-fill\n\
+    COMMIT\n\
+    *raw\n\
+    :PREROUTING ACCEPT [0:0]\n\
+    :OUTPUT ACCEPT [0:0]\n\
+    :R - [0:0]\n\
+    -A PREROUTING -p udp -m udp --dport 53 -j NOTRACK\n\
+    -A PREROUTING -p udp -m udp --dport 54 -j CT --notrack\n\
+    -A PREROUTING -j R\n";
+
+/// Ends of that list, and the lines for which INPUT, FORWARD and OUTPUT are refused: 0 where they
+/// are read. Docker 28 drops in `raw` what comes to a container from elsewhere.
+const ENDS: [(&str, [u32; 3]); 7] = [
+    ("COMMIT\n", [0, 0, 0]),
+    (
+        "-A PREROUTING -d 172.17.0.2/32 ! -i docker0 -j DROP\nCOMMIT\n",
+        [48, 48, 0],
+    ),
+    ("-A OUTPUT -p udp -j DROP\nCOMMIT\n", [0, 0, 48]),
+    ("-A R -j DROP\nCOMMIT\n", [48, 48, 48]),
+    ("-A R -j NFQUEUE --queue-num 1\nCOMMIT\n", [48, 48, 48]),
+    (
+        "-A OUTPUT -j DNAT --to-destination 10.0.0.9\nCOMMIT\n",
+        [48, 48, 48],
+    ),
+    (
+        "COMMIT\n*raw\n:PREROUTING DROP [0:0]\nCOMMIT\n",
+        [49, 49, 49],
+    ),
+];
 
 /// A gateway of IPv6.
 const GATEWAY6: &str = "*filter\r\n\
@@ -190,9 +264,9 @@ const LISTS: [(&str, u32); 7] = [
     ),
 ];
 
-/// The line for which a list of IPv4 is refused, and 0 if it is read.
-fn refused_line(alloc: Global, text: &str) -> u32 {
-    match read_chains(alloc, text.as_bytes(), BY_LINE, b"", b"FORWARD") {
+/// The line for which packets of a chain of IPv4 are refused, and 0 if its list is read.
+fn refused_line(alloc: Global, text: &[u8], name: &[u8]) -> u32 {
+    match read_chains(alloc, text, BY_LINE, b"", name) {
         Ok(_) => 0,
         Err(IptablesFault::Line(fault)) => fault.line,
         Err(IptablesFault::OutOfMemory) => u32::MAX,
@@ -202,6 +276,41 @@ fn refused_line(alloc: Global, text: &str) -> u32 {
 #[test]
 fn a_list_is_refused_for_a_line_that_packets_come_to(rt: HostRuntime) {
     for (text, line) in &LISTS {
-        assert!(rt; refused_line(rt.alloc(), text) == *line);
+        assert!(rt; refused_line(rt.alloc(), text.as_bytes(), b"FORWARD") == *line);
+    }
+}
+
+#[test]
+fn tables_that_may_drop_the_packets_of_a_chain_are_refused(rt: HostRuntime) -> Result<(), Fail> {
+    let alloc = rt.alloc();
+    for (end, lines) in &ENDS {
+        let mut text = Vec::new(alloc);
+        text.extend_from_slice(TABLES.as_bytes())?;
+        text.extend_from_slice(end.as_bytes())?;
+        assert!(&rt; refused_line(alloc, &text, b"INPUT") == lines[0]);
+        assert!(&rt; refused_line(alloc, &text, b"FORWARD") == lines[1]);
+        assert!(&rt; refused_line(alloc, &text, b"OUTPUT") == lines[2]);
+        assert!(&rt; has_other_tables(&text));
+    }
+    assert!(&rt; !has_other_tables(GATEWAY.as_bytes()));
+    Ok(())
+}
+
+#[test]
+fn an_interface_that_packets_lack_isnt_assumed(rt: HostRuntime) {
+    for (assumed, name) in [
+        (b"in=eth0,state=new".as_slice(), b"OUTPUT".as_slice()),
+        (b"out=eth0", b"INPUT"),
+    ] {
+        let said = read_chains(rt.alloc(), GATEWAY.as_bytes(), BY_LINE, assumed, name);
+        assert!(rt;
+            matches!(
+                said,
+                Err(IptablesFault::Line(LineFault {
+                    line: 0,
+                    kind: LineKind::LacksInterface
+                }))
+            )
+        );
     }
 }
