@@ -10,7 +10,9 @@ use Rattle.rule_split.specs.Split.{groups_of, total_of, plan_of, PlanView}
 use Rattle.rule_split.proofs.Offered.{group_of_levels, groups_hold, total_of_words}
 use Rattle.flat_table.specs.Table.{TableView, words_of}
 use Rattle.table_fill.specs.Filled.{filled}
-use Rattle.acl_context.specs.Context.{built_of}
+use Rattle.table_fill.specs.Serves.{Serves}
+use Rattle.rule_order.specs.Cut.{HoldAll, groups_in, words_in}
+use Rattle.acl_context.specs.Context.{built_of, HoldsAll}
 
 -- the merged states of each group of the split
 abbrev pub levels_in : RuleSetView → ℕ → List LevelsView
@@ -84,3 +86,28 @@ words_are set budget table levels is are fits words =
     ap words_of (sym is) ∙ words
     ∙ ap (λ (tries : List LevelsView). row_len + sum_by (λ (trie : LevelsView). trie.words) tries) are
     ∙ sym (rw (levels_of_plan set budget) at (total_of_words set budget fits))
+
+-- the table of parts that hold all rules
+pub parts_hold : (set : RuleSetView) (levels : List LevelsView) (table : TableView) → HoldAll set levels →
+    table ≡ filled set (groups_in levels) → Serves set table → words_of table ≡ words_in levels → HoldsAll set table
+parts_hold set levels table holds is serves words = record {
+  groups = groups_in levels;
+  few = omega (arith, holds.few, length-map levels (λ (part : LevelsView). part.group));
+  once = holds.groups;
+  is = is;
+  size = omega (arith, words, holds.size);
+  serves = serves;
+}
+
+-- and that of a split
+pub split_holds : (set : RuleSetView) (budget : ℕ) (table : TableView) → table ≡ built_of set budget →
+    Serves set (built_of set budget) → budget ≤ max_words → total_of set budget ≤ budget →
+    words_of (built_of set budget) ≡ total_of set budget → HoldsAll set table
+split_holds set budget table is serves within fits words = record {
+  groups = groups_of set budget;
+  few = groups_hold.few set budget;
+  once = groups_hold.once set budget;
+  is = is;
+  size = omega (arith, ap words_of is, words, fits, within);
+  serves = rw is serves;
+}

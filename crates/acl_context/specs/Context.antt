@@ -2,13 +2,15 @@
 -- Control": rules are added to a context, a build makes run-time structures of them, and packets
 -- are classified by these).
 use Rattle.std.specs.Prelude.{◌≡◌, ℕ, ◌≤◌, List, length, Option, IfSome}
+use Rattle.table_sizes.specs.Sizes.{max_rules, max_tries, max_words}
+use Rattle.rule_set.specs.Groups.{IsPartition}
 use Rattle.field_defs.specs.Layout.{key_len_of}
 use Rattle.rule_set.specs.declared.rule.Rule.{Rule}
-use Rattle.table_sizes.specs.Sizes.{max_rules}
 use Rattle.rule_set.specs.Rule.{RuleView, RuleSetView}
 use Rattle.rule_split.specs.Split.{groups_of}
-use Rattle.flat_table.specs.Table.{TableView}
+use Rattle.flat_table.specs.Table.{TableView, words_of}
 use Rattle.table_fill.specs.Filled.{filled}
+use Rattle.table_fill.specs.Serves.{Serves}
 
 -- a context: its rules, how many it may hold, and the table of its last build, if there is one
 pub record ContextView : Type 0 where
@@ -36,3 +38,13 @@ rule_view rule = record { tag = rule.tag; fields = rule.fields }
 -- the table that a build makes of a set under a budget: a trie for each group of its split
 abbrev pub built_of : RuleSetView → ℕ → TableView
 built_of set budget = filled set (groups_of set budget)
+
+-- A table that holds all rules of a set: a trie for each of at most eight groups, whichever they
+-- are, that hold each rule once. It answers for each key and category as the rules do.
+pub record HoldsAll (set : RuleSetView) (table : TableView) : Type 0 where
+  pub groups : List (List ℕ)
+  pub few : length groups ≤ max_tries
+  pub once : IsPartition (length set.rules) groups
+  pub is : table ≡ filled set groups
+  pub size : words_of table ≤ max_words
+  pub serves : Serves set table

@@ -1,7 +1,8 @@
 //! Rules of one layout, and the table of the last build.
 
 ghost use Rattle.std.specs.Prelude.{◌≡◌, ◌↔◌, ℕ, ◌+◌, ◌<◌, ◌≤◌, [], drop, length, map};
-ghost use Rattle.std.specs.Prelude.{Some, None, Ok, Err, IfOk, IfSome, IsErr, OnOk, OnErr, option_copied};
+ghost use Rattle.std.specs.Prelude.{Some, None, Ok, Err, IfOk, IfSome, IsErr, IsSome, OnOk, OnErr};
+ghost use Rattle.std.specs.Prelude.{option_copied};
 ghost use Rattle.field_defs.specs.Layout.{key_len_of, max_fields};
 ghost use Rattle.rule_set.specs.Rule.{RuleSetView};
 ghost use Rattle.table_sizes.specs.Sizes.{max_rules as most_rules, max_words};
@@ -11,12 +12,14 @@ ghost use Rattle.flat_table.specs.Batch.{keys_of_len, most_of_batch};
 ghost use Rattle.flat_table.specs.Table.{words_of};
 ghost use Rattle.table_fill.specs.Serves.{Serves};
 ghost use Rattle.covered_rules.specs.Covered.{uncovered_set};
-ghost use Rattle.acl_context.specs.Context.{built_of, rule_view, with_rules};
+ghost use Rattle.acl_context.specs.Context.{built_of, rule_view, with_rules, HoldsAll};
 ghost use Rattle.acl_context.specs.Add.{Adds};
 ghost use Rattle.acl_context.specs.Batch.{DecidesAs, verdicts_by_rules};
 
 use crate::add::{AddFault, Given, check_all, push_all};
-use crate::build::{BuildFault, make_table, make_uncovered, uncovered_decide};
+use crate::build::{
+    BuildFault, make_small_uncovered, make_table, make_uncovered, uncovered_decide,
+};
 use batch_walk::classify_by;
 use field_defs::Layout;
 use flat_table::{Steps, Table, Walk};
@@ -178,6 +181,30 @@ impl AclContext {
     {
         uncovered_decide(&self.rules);
         self.table = Some(make_uncovered(self.alloc, &self.rules, budget)?);
+        Ok(())
+    }
+
+    /// Makes a table with few words of the rules that no wide rule before them covers.
+    ///
+    /// Its verdicts are those of all rules that are held. No budget is given: groups of rules are
+    /// looked for that need few words and little time ([`rule_order::order_and_cut`]). `TooLarge`
+    /// comes only where none are found, and [`AclContext::build_uncovered`] refuses the greatest
+    /// budget. Other faults and memory are those of that call.
+    pub fn build_small(&mut self) -> Result<(), BuildFault>
+        ensures built { OnOk result (IsSome self.new.table) }
+        // The new table answers for each key and category as the uncovered rules do.
+        ensures table { OnOk result
+            (IfSome self.new.table (HoldsAll (uncovered_set self.old.set))) }
+        // And these decide as all rules that are held.
+        ensures decides { DecidesAs (uncovered_set self.old.set) self.old.set }
+        ensures others { OnOk result (self.new ≡ record self.old { table = self.new.table }) }
+        ensures too_large { (words most : ℕ) → result ≡ Err (BuildFault.TooLarge words most) →
+            (words ≡ total_of (uncovered_set self.old.set) max_words) × (most ≡ max_words)
+            × (max_words < words) }
+        ensures err { OnErr result (self.new ≡ self.old) }
+    {
+        uncovered_decide(&self.rules);
+        self.table = Some(make_small_uncovered(self.alloc, &self.rules)?);
         Ok(())
     }
 

@@ -201,6 +201,11 @@ fn a_covered_rule_has_no_words(rt: HostRuntime) -> Result<(), Fail> {
     context.build_uncovered(44)?;
     expect(&rt, &mut scratch, &context, Some([7, 0]));
     context.build(1000)?;
+    context.build_small()?;
+    let table = context.table().expect(&rt, "a table");
+    assert!(rt; table.total_words() == 44);
+    expect(&rt, &mut scratch, &context, Some([7, 0]));
+    context.build(1000)?;
     expect(&rt, &mut scratch, &context, Some([7, 0]));
     Ok(())
 }
