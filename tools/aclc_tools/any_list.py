@@ -200,7 +200,6 @@ def of_other(name, form, text, given):
     options = {key: value for key, value in vars(given).items() if value is not None and key != "data"}
     options, what = complete(argparse.Namespace(**{**options, "form": form, "file": str(name)})), FORMS[form].what
     try:
-        text.encode()
         answered = list_program.answered(options, text)
         if answered is not None:
             return Proved(name, options, answered, text).list()
@@ -212,8 +211,6 @@ def of_other(name, form, text, given):
             tell(name, what, *it)
         tell(name, what, said.number, said.text, said.reason)
         sys.exit(2)
-    except UnicodeEncodeError as error:
-        leave(f"{name}: character {error.start} of it isn't UTF-8", 2)
     for it in found.notes:
         tell(name, what, *it)
     return freed(Built(name, form, found.flattener, text).list(), options, text)

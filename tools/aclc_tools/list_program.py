@@ -109,8 +109,8 @@ def written(options, text, word, chain):
     told = assume.of(options).told()
     data = options.data if options.data in ("line", "verdict") else "line"
     words = [word, "/dev/stdin", chain, f"data={data}"] + [f"assume={told}"] * bool(told)
-    done = subprocess.run([str(list_program()), *words], input=text.encode(), stdout=subprocess.PIPE,
-                          stderr=subprocess.PIPE)
+    done = subprocess.run([str(list_program()), *words], input=text.encode(errors="surrogateescape"),
+                          stdout=subprocess.PIPE, stderr=subprocess.PIPE)
     said = done.stderr.decode(errors="replace").rstrip("\n")
     if done.returncode == REFUSED and said:
         return Written(None, said)
@@ -119,7 +119,7 @@ def written(options, text, word, chain):
     if said:
         note(f"{options.file}: {said}")
     lines = [f"# {printable(line[2:])}" if line.startswith("#") else line
-             for line in done.stdout.decode(errors="replace").split("\n")[:-1]]
+             for line in done.stdout.decode(errors="surrogateescape").split("\n")[:-1]]
     if data != options.data:
         lines = [line if line.startswith("#") else re.sub(r"data=\d+\Z", f"data={options.data}", line) for line in lines]
     return Written(lines, said)

@@ -50,5 +50,10 @@ class Malformed(CantSay):
 
 
 def printable(text):
-    """A text on one line, without characters that change what a terminal shows."""
-    return "".join(it if it.isprintable() else f"\\x{ord(it):02x}" for it in " ".join(text.split()))
+    """A text on one line, without characters that change what a terminal shows. A byte that isn't UTF-8 is a surrogate."""
+    return "".join(it if it.isprintable() else escaped(ord(it)) for it in " ".join(text.split()))
+
+
+def escaped(number):
+    """A character by its number."""
+    return f"\\x{number - 0xDC00 if 0xDC80 <= number <= 0xDCFF else number:02x}"

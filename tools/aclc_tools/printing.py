@@ -3,6 +3,7 @@
 import csv
 import json
 import re
+import signal
 import sys
 
 # Control characters but TAB, what turns the direction of a text or can't be seen, and bytes that aren't UTF-8.
@@ -56,6 +57,10 @@ def end_of(main, code):
     name = shown(sys.argv[0].rpartition("/")[2])
     for stream in filter(None, (sys.stdout, sys.stderr)):
         stream.reconfigure(errors="backslashreplace")
+    for number in (signal.SIGTERM, signal.SIGHUP):
+        # So that the files which the program gets go with the tool.
+        if signal.getsignal(number) == signal.SIG_DFL:
+            signal.signal(number, lambda its_number, _: sys.exit(128 + its_number))
     try:
         if not sys.stdout:
             raise OSError("standard output is closed")

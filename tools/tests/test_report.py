@@ -306,7 +306,7 @@ class Hostile(Room):
                 (b"# a\0b\n" + office, (), 2, "no text"), (office.replace(b"pri=20", b"pri=20\0"), (), 2, "line 2: bad attribute"),
                 (office.replace(b"data=101", b"data=101 \xff"), (), 2, "line 2: tail left"), (b"# \xff\xfe caf\xe9\n" + office, (), 0, ""),
                 (b"#" + b"x" * 300_000 + b"\n" + office, (), 0, ""), (office.replace(b"pri=20", b" " * 200_000 + b"pri=20"), (), 0, ""),
-                (gateway.replace(told, b"\xff"), chain, 2, "isn't UTF-8"), (gateway.replace(told, b"a \0 b"), chain, 0, ""),
+                (gateway.replace(told, b"\xff"), chain, 0, ""), (gateway.replace(told, b"a \0 b"), chain, 0, ""),
                 (gateway.replace(told, b"y" * 100_000), chain, 0, ""), (gateway.replace(told, "\u202e \u2028".encode()), chain, 0, "")):
             code_of, said, page, columns = self.report(*words, self.write("odd", content), PCAP)
             self.assertEqual((code_of, part in said), (code, True), (content[:80], said))
