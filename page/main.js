@@ -4,6 +4,7 @@ import { count, make, many } from './text.js';
 import { contentOf, unpacked } from './data.js';
 import { changedIn, hitsOf, kindsOf, openOf, pairsOf } from './counts.js';
 import { everything } from './filters.js';
+import { answerOf } from './sentence.js';
 import { rulesView } from './rules_view.js';
 import { packetsView } from './packets_view.js';
 import { timeView } from './time_view.js';
@@ -41,6 +42,7 @@ class Page {
     this.keyed = packets ? packets.outcomes.reduce((sum, it) => sum + (it.kind >= 4 ? it.total : 0), 0) : 0;
     this.head();
     this.go(this.views().find((it) => it.main)?.name ?? this.views()[0].name);
+    $('said').textContent = report.list ? answerOf(this).join(' ') : 'Nothing could be shown: a list is refused.';
   }
 
   // How many packets each entry of a list decides in the category that is chosen.
@@ -143,6 +145,7 @@ class Page {
     const close = make('button', { type: 'button', class: 'close', 'aria-label': 'Close the details', onclick: () => this.close(true) }, '×');
     $('side').replaceChildren(close, ...details.flat(9).filter(Boolean));
     $('side').hidden = false;
+    $('said').textContent = $('side').querySelector('h2')?.textContent ?? '';
     $('body').classList.add('with-side');
   }
 
@@ -151,6 +154,14 @@ class Page {
     $('side').hidden = true;
     $('body').classList.remove('with-side');
     if (focus && this.back?.isConnected) this.back.focus();
+  }
+
+  // Shows the details of what the keys lead to, if details are shown.
+  follow(does) {
+    if ($('side').hidden) return;
+    const { back } = this;
+    does();
+    this.back = back;
   }
 
   openRule(place) {

@@ -38,7 +38,7 @@ function rowOf(page, at) {
   if (entry !== null) by = entry < 0 ? 'no rule matches' : `${report.list.entries[entry].place}: ${report.list.entries[entry].text}`;
   const number = page.captures.length > 1 ? `${packets.capture[at] + 1}#${packets.number[at]}` : String(packets.number[at]);
   const time = packets.hasTimes ? [timeText(packets.time[at], packets.timeDigits())] : [];
-  const cells = [number, ...time, ...fields(packets, at)];
+  const cells = [number, ...(report.old ? [page.isChanged[packets.outcome[at]] ? '≠' : ''] : []), ...time, ...fields(packets, at)];
   for (const category of shownCategories(page)) {
     for (let its = 0; its <= list; its++) cells.push(answerText(report, at, its, category));
   }
@@ -83,7 +83,7 @@ function columnsOf(page) {
   }));
   const by = longest(places(packets.lists - 1, page.category).map((it) => (it < 0 ? '' : `${list.entries[it].place}: ${list.entries[it].text}`)));
   const isOne = page.categories.length < 2;
-  return [code('Number', '5.6rem', true), ...(packets.hasTimes ? [code('Time (UTC)', widthOf(20 + packets.timeDigits()))] : []),
+  return [code('Number', '5.6rem', true), ...(old ? [code('Changed', widthOf(8))] : []), ...(packets.hasTimes ? [code('Time (UTC)', widthOf(20 + packets.timeDigits()))] : []),
     code('Class', widthOf(17)), code('Source', end), code('Destination', end), ...answers,
     { ...code(isOne ? 'Decided by' : `Decided by in category ${page.categories[page.category]}`, `minmax(${widthOf(Math.max(25, by))}, 1fr)`), kind: 'code' }];
 }
@@ -193,6 +193,7 @@ export function packetsView(page) {
     label: 'Packets', columns: columnsOf(page), cells: (at) => rowOf(page, places[at]),
     kind: (at) => (page.isChanged[page.report.packets.outcome[places[at]]] ? 'changed' : ''),
     open: (at) => page.openPacket(places[at]),
+    chosen: (at) => page.follow(() => page.openPacket(places[at])),
   });
   const told = make('span', { class: 'note', role: 'status' });
   const tools = make('form', { class: 'tools', onsubmit: (event) => event.preventDefault() });

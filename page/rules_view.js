@@ -9,8 +9,10 @@ import { copyButtons } from './copy.js';
 const CHOICES = { all: 'all', used: 'decide packets', idle: 'decide none of these', dead: 'can never decide' };
 const OF_PACKETS = ['used', 'idle'];
 const ORDERS = { line: 'their order', packets: 'packets' };
-const COUNTED = [{ title: 'Packets', width: '6.5rem', end: true, kind: 'number' },
+const COUNTED = [{ title: 'Packets', width: '5.5rem', end: true, kind: 'number' },
   { title: 'Share', width: '4.5rem', end: true, kind: 'number' }, { title: '', width: '5rem' }];
+// On a phone the share of a rule is left to its details.
+const isNarrow = () => globalThis.innerWidth < 640;
 // Beside the text of a rule stands its verdict.
 const VERDICT = 8;
 
@@ -124,14 +126,16 @@ export function rulesView(page) {
   let rows = [];
   const total = page.keyed;
   const { list, list: { what }, packets } = page.report;
+  const counted = isNarrow() ? COUNTED.slice(0, 1) : COUNTED;
   const table = new Table({
     label: 'Rules', height: 48,
-    columns: [{ title: `${what[0].toUpperCase()}${what.slice(1)}`, width: '4.5rem', end: true, kind: 'number' }, ...(packets ? COUNTED : []),
+    columns: [{ title: `${what[0].toUpperCase()}${what.slice(1)}`, width: '4.5rem', end: true, kind: 'number' }, ...(packets ? counted : []),
       { title: 'Rule', width: widthOfRules(page.report, page.category) },
       ...(packets?.hasTimes ? [{ title: 'First and last (UTC)', width: widthOf(20 + packets.timeDigits()), kind: 'number' }] : [])],
-    cells: (at) => cellsOf(page, rows[at], total),
+    cells: (at) => cellsOf(page, rows[at], total).filter((_, column) => !packets || column < 2 || column > 3 || counted === COUNTED),
     kind: (at) => kindOf(page, rows[at]),
     open: (at) => page.openRule(rows[at].place),
+    chosen: (at) => page.follow(() => rows[at].place >= 0 && page.openRule(rows[at].place)),
   });
   const state = page.rules;
   const told = make('span', { class: 'note', role: 'status' });

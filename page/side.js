@@ -1,6 +1,6 @@
 // SPDX-License-Identifier: BSD-3-Clause
 // Details of a rule, and why a packet has its answer.
-import { count, isOfPacket, keyText, lengthText, make, many, timeText } from './text.js';
+import { count, isOfPacket, keyText, lengthText, make, many, share, timeText } from './text.js';
 import { KINDS } from './data.js';
 import { matching, reason } from './why.js';
 import { deadText } from './rules_view.js';
@@ -35,7 +35,7 @@ export function ruleDetails(page, place) {
   const entry = list.entries[place];
   const hits = packets && page.hits(packets.lists - 1).get(place);
   const facts = [entry.verdict ? fact('Verdict', entry.verdict) : fact('Userdata', String(entry.match?.userdata ?? entry.answer)),
-    packets ? fact('Decides', `${many(hits?.total ?? 0, 'packet')} of ${count(page.keyed)}`) : []];
+    packets ? fact('Decides', `${many(hits?.total ?? 0, 'packet')} of ${count(page.keyed)} ${share(hits?.total ?? 0, page.keyed)}`.trim()) : []];
   if (hits && packets.hasTimes) {
     facts.push(...['first', 'last'].map((it) => fact(it === 'first' ? 'First' : 'Last', `${timeText(hits[it], packets.timeDigits())} UTC`)),
       fact('Over', lengthText(hits.last - hits.first)));

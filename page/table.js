@@ -16,10 +16,11 @@ export const widthOf = (characters) => `${(Math.min(MOST_CHARACTERS, characters)
 
 export class Table {
   // `columns` have a title, a width of grid columns, and `end` where they stand at the right. `cells` gives the contents
-  // of a row's cells, texts or elements, and `open` is called for the row that is chosen. With `fit` the table is as high
+  // of a row's cells, texts or elements, `open` is called for the row that is opened, and `chosen` for one that the keys
+  // lead to. With `fit` the table is as high
   // as its rows, and at most as that many.
-  constructor({ label, columns, height = 28, cells, open, kind, fit = 0 }) {
-    Object.assign(this, { columns, rowHeight: height, cells, open, kind, fit });
+  constructor({ label, columns, height = 28, cells, open, chosen, kind, fit = 0 }) {
+    Object.assign(this, { columns, rowHeight: height, cells, open, chosen, kind, fit });
     this.id = `table${++tables}`;
     this.count = 0;
     this.active = -1;
@@ -129,7 +130,10 @@ export class Table {
     const steps = { ArrowDown: 1, ArrowUp: -1, PageDown: page, PageUp: -page, Home: -Infinity, End: Infinity };
     if (event.target !== this.element || event.altKey || event.metaKey || !this.count) return;
     this.enter();
-    if (event.key in steps) this.choose(this.active + steps[event.key]);
+    if (event.key in steps) {
+      this.choose(this.active + steps[event.key]);
+      this.chosen?.(this.active);
+    }
     else if ((event.key === 'Enter' || event.key === ' ') && this.active >= 0) this.open?.(this.active);
     else return;
     event.preventDefault();

@@ -4,7 +4,11 @@ import { count, endTimeText, lengthText, make, many, rangeText, timeText } from 
 
 const MOST_SERIES = 8;
 const PARTS = 160;
-const SIZE = { width: 1000, height: 300, left: 62, right: 6, top: 8, bottom: 26 };
+// The chart is as wide as there is room, so that its texts keep their size.
+const SIZE = { height: 300, left: 62, right: 6, top: 8, bottom: 26 };
+const LEAST_WIDTH = 280;
+// A middle time is told if there is room for three.
+const ROOM_FOR_THREE = 560;
 
 // What the packets of each outcome are counted under, by line or by answer.
 function labelsOf(page, by) {
@@ -64,10 +68,11 @@ function roundUp(value) {
   return [1, 2, 4, 10].map((it) => it * unit).find((it) => it >= value);
 }
 
-const inner = { width: SIZE.width - SIZE.left - SIZE.right, height: SIZE.height - SIZE.top - SIZE.bottom };
+const inner = { height: SIZE.height - SIZE.top - SIZE.bottom };
+const innerWidth = (width) => width - SIZE.left - SIZE.right;
 
-function barsOf(found, most) {
-  const step = inner.width / found.parts;
+function barsOf(found, most, wide) {
+  const step = innerWidth(wide) / found.parts;
   return found.rows.flatMap((row, part) => {
     let under = 0;
     return [...row].map((value, at) => {
@@ -80,28 +85,29 @@ function barsOf(found, most) {
   });
 }
 
-function axes({ start, width, parts }, most) {
+function axes({ start, width, parts }, most, wide) {
   const lines = [0, 0.25, 0.5, 0.75, 1].filter((it) => it === 0 || it * most >= 1).map((part) => {
     const y = SIZE.top + inner.height * (1 - part);
-    return make('g', {}, make('line', { class: 'grid', x1: SIZE.left, x2: SIZE.width - SIZE.right, y1: y, y2: y }),
+    return make('g', {}, make('line', { class: 'grid', x1: SIZE.left, x2: wide - SIZE.right, y1: y, y2: y }),
       make('text', { x: SIZE.left - 6, y: y + 4, 'text-anchor': 'end' }, count(Math.round(part * most))));
   });
   const timeAt = (part) => start + (width * BigInt(parts) * BigInt(part * 2)) / 2n;
-  const times = [0, 0.5, 1].map((part) => make('text', { x: SIZE.left + part * inner.width, y: SIZE.height - 8,
+  const shown = wide < ROOM_FOR_THREE ? [0, 1] : [0, 0.5, 1];
+  const times = shown.map((part) => make('text', { x: SIZE.left + part * innerWidth(wide), y: SIZE.height - 8,
     'text-anchor': ['start', 'middle', 'end'][part * 2] }, part ? endTimeText(timeAt(0), timeAt(part)) : timeText(timeAt(0))));
   return [...lines, ...times];
 }
 
 // The chart, on which a range is drawn.
-function chartOf(page, found, choose) {
+function chartOf(found, wide, choose) {
   const most = roundUp(Math.max(...found.rows.map((row) => row.reduce((sum, it) => sum + it, 0))));
   const range = make('rect', { class: 'range', y: SIZE.top, height: inner.height, x: 0, width: 0 });
-  const chart = make('svg', { viewBox: `0 0 ${SIZE.width} ${SIZE.height}`, class: 'chart', role: 'img',
-    'aria-label': `Packets over ${lengthText(found.width * BigInt(found.parts))}, stacked by ${found.names.join(', ')}` }, axes(found, most), barsOf(found, most), range);
+  const chart = make('svg', { viewBox: `0 0 ${wide} ${SIZE.height}`, width: wide, height: SIZE.height, class: 'chart', role: 'img',
+    'aria-label': `Packets over ${lengthText(found.width * BigInt(found.parts))}, stacked by ${found.names.join(', ')}` }, axes(found, most, wide), barsOf(found, most, wide), range);
   const partAt = (event) => {
     const box = chart.getBoundingClientRect();
-    const x = ((event.clientX - box.left) / box.width) * SIZE.width - SIZE.left;
-    return Math.max(0, Math.min(found.parts - 1, Math.floor((x / inner.width) * found.parts)));
+    const x = ((event.clientX - box.left) / box.width) * wide - SIZE.left;
+    return Math.max(0, Math.min(found.parts - 1, Math.floor((x / innerWidth(wide)) * found.parts)));
   };
   let from = null;
   chart.addEventListener('pointerdown', (event) => {
@@ -113,8 +119,8 @@ function chartOf(page, found, choose) {
   chart.addEventListener('pointermove', (event) => from !== null && choose(Math.min(from, partAt(event)), Math.max(from, partAt(event)) + 1));
   chart.addEventListener('pointerup', () => { from = null; });
   const mark = (first, last) => {
-    range.setAttribute('x', SIZE.left + (first / found.parts) * inner.width);
-    range.setAttribute('width', first === 0 && last === found.parts ? 0 : ((last - first) / found.parts) * inner.width);
+    range.setAttribute('x', SIZE.left + (first / found.parts) * innerWidth(wide));
+    range.setAttribute('width', first === 0 && last === found.parts ? 0 : ((last - first) / found.parts) * innerWidth(wide));
   };
   return { chart, mark };
 }
@@ -160,14 +166,29 @@ export function timeView(page) {
   if (packets.end === packets.start) return [make('p', { class: 'lead' }, 'All packets of this capture have the same time, so there is nothing to draw.')];
   const place = make('div', {});
   const told = make('span', { class: 'note', role: 'status' });
+  let redraw = () => {};
+  const watch = new ResizeObserver(() => redraw());
   const draw = (by) => {
     const found = countsOf(page, by);
     const { state, choose, fields } = picker(page, found, told);
-    const { chart, mark } = chartOf(page, found, choose);
-    state.mark = mark;
+    const room = make('div', { class: 'room' });
+    let wide = 0;
+    const drawn = () => {
+      const now = Math.max(LEAST_WIDTH, room.clientWidth || document.getElementById('view').clientWidth);
+      if (now === wide) return;
+      wide = now;
+      const { chart, mark } = chartOf(found, wide, choose);
+      state.mark = mark;
+      room.replaceChildren(chart);
+      mark(state.first, state.last);
+    };
+    watch.disconnect();
+    watch.observe(room);
+    redraw = drawn;
     const show = make('button', { type: 'button', onclick: () => page.showRange(...rangeOf(found, state)) }, 'Show these packets');
     const all = make('button', { type: 'button', onclick: () => choose(0, found.parts) }, 'The whole time');
-    place.replaceChildren(legendOf(found), chart, make('div', { class: 'tools' }, fields, show, all, told));
+    place.replaceChildren(legendOf(found), room, make('div', { class: 'tools' }, fields, show, all, told));
+    drawn();
     choose(state.first, state.last);
   };
   const by = make('select', { id: 'stacked', onchange: (event) => draw(event.target.value) },

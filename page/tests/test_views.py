@@ -25,6 +25,17 @@ def nanoseconds(text):
     return calendar.timegm(time.strptime(whole, "%Y-%m-%d %H:%M:%S")) * 10 ** 9 + int(part.ljust(9, "0"))
 
 
+def contrast(*colours):
+    """The contrast of two colours as WCAG 2 defines it."""
+    def luminance(text):
+        parts = [int(it) / 255 for it in re.findall(r"[0-9]+", text)[:3]]
+        parts = [it / 12.92 if it <= 0.03928 else ((it + 0.055) / 1.055) ** 2.4 for it in parts]
+        return 0.2126 * parts[0] + 0.7152 * parts[1] + 0.0722 * parts[2]
+
+    low, high = sorted(map(luminance, colours))
+    return (high + 0.05) / (low + 0.05)
+
+
 class Looks(Shown):
     """What each view shows: in each browser, and in dark colours."""
 
@@ -35,7 +46,7 @@ class Looks(Shown):
         self.assertIn("least key: udp 192.168.1.0:0 → 192.168.2.31:1234", rows[0])
         self.picture("rules")
         self.tab("packets")
-        self.assertEqual([it[:46] for it in self.rows()][0], "1 IPv4 udp 192.168.1.5:5000 192.168.2.31:1234 ")
+        self.assertTrue(self.rows()[0].startswith("1 ≠ IPv4 udp 192.168.1.5:5000 192.168.2.31:1234 "), self.rows())
         self.assertIn("The least one is udp 192.168.1.0:0 → 192.168.2.31:1234.", self.tab("lists"))
         self.assertIn("1 of 3 packets gets another answer", self.browser.evaluate(VIEW))
         self.assertIn("nothing to draw", self.tab("time"))
@@ -67,6 +78,27 @@ class Looks(Shown):
         self.browser.evaluate("[...document.querySelectorAll('button')].find(it => it.textContent === 'Show these packets').click()")
         told = self.browser.evaluate("document.querySelector('.tools [role=status]').textContent")
         self.assertEqual(told.split(" of ")[0], picked.split(" ")[0])
+
+    def test_keys_of_legends_and_edges_of_fields_are_seen(self):
+        """A contrast of at least 3 : 1 to what they stand on, and a chart whose texts keep their size."""
+        self.open(self.hour())
+        self.tab("time")
+        colours = self.browser.evaluate("""(() => {
+            const of = (element, name) => getComputedStyle(element)[name];
+            const back = of(document.body, 'backgroundColor'), sheet = of(document.querySelector('.chart'), 'backgroundColor');
+            const keys = ['others', 'none', ...[0, 1, 2, 3, 4, 5, 6, 7].map((it) => `series${it}`)].map((name) => {
+                const key = document.querySelector('.legend .key').cloneNode();
+                key.className = `key ${name}`;
+                document.querySelector('.legend').append(key);
+                return of(key, 'backgroundColor');
+            });
+            return [[back, sheet], [...keys, of(document.getElementById('stacked'), 'borderTopColor'), of(document.querySelector('.grid'), 'stroke')]];
+        })()""")
+        for ground in colours[0]:
+            for colour in colours[1]:
+                self.assertGreaterEqual(contrast(ground, colour), 3, (ground, colour))
+        box = self.browser.evaluate("(() => { const it = document.querySelector('.chart'); return [it.clientWidth, it.viewBox.baseVal.width]; })()")
+        self.assertLess(abs(box[0] - box[1]), 8, box)
 
     def test_dead_lines_are_struck_out_and_name_what_covers_them(self):
         self.open(FILES.page("dead", 0, EXAMPLES / "shadowed.rules"))
@@ -168,6 +200,20 @@ class Views(Looks):
         self.assertIn("Packet 2", self.browser.evaluate(SIDE))
         self.browser.press("Escape")
         self.assertTrue(self.browser.evaluate("document.getElementById('side').hidden"))
+        self.assertEqual(self.browser.evaluate("document.activeElement.className"), "table")
+
+    def test_details_follow_the_row_and_changes_have_a_mark(self):
+        self.open(FILES.page("office", 1, OFFICE, "--old", EDITED, EXAMPLES / "office.pcap"))
+        self.tab("packets")
+        changed = [" ≠ " in f" {it} " for it in self.rows()]
+        self.assertEqual(changed, self.browser.evaluate("[...document.querySelectorAll('.row:not(.head)')].map(it => it.classList.contains('changed'))"))
+        self.assertEqual(sum(changed), 1)
+        self.browser.evaluate("document.querySelector('.table').focus()")
+        self.browser.press("Enter", "ArrowDown")
+        self.assertIn("Packet 2", self.browser.evaluate(SIDE))
+        self.assertEqual(self.browser.evaluate("[document.activeElement.className, document.getElementById('said').textContent]"),
+                         ["table", "Packet 2"])
+        self.browser.press("Escape")
         self.assertEqual(self.browser.evaluate("document.activeElement.className"), "table")
 
     def test_each_field_and_table_has_a_name(self):
