@@ -16,7 +16,6 @@ use Rattle.cisco_reader.specs.declared.entry.Addresses.TheVariants as addresses
 use Rattle.cisco_reader.specs.declared.entry.Services.{Services}
 use Rattle.cisco_reader.specs.declared.entry.Services.TheVariants as services
 use Rattle.cisco_reader.specs.declared.services.Service.{Service}
-use Rattle.cisco_reader.specs.declared.held.TheConstants.{MAX_DEPTH, MAX_HELD}
 use Rattle.cisco_reader.specs.declared.fault.LineFault.{LineFault}
 use Rattle.cisco_reader.specs.declared.fault.LineKind.{LineKind}
 use Rattle.cisco_reader.specs.declared.fault.LineKind.TheVariants as fault
@@ -30,11 +29,11 @@ use Rattle.cisco_reader.specs.Wildcard.{ip4_plain, spans_under}
 
 -- how many members a group may hold, with those of the groups in it
 abbrev pub max_held : ℕ
-max_held = MAX_HELD
+max_held = 65536
 
 -- in how many others a group may lie
 abbrev pub max_depth : ℕ
-max_depth = MAX_DEPTH
+max_depth = 100
 
 -- ---- lines
 

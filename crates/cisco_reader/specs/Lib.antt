@@ -15,3 +15,4 @@ pub mod Packets
 pub mod PacketsExamples
 pub mod GroupsExamples
 pub mod ListsExamples
+pub mod LimitsExamples

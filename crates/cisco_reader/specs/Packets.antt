@@ -14,7 +14,6 @@ use Rattle.cisco_reader.specs.declared.packets.Answers.{Answers}
 use Rattle.cisco_reader.specs.declared.packets.Answers.TheVariants as answers
 use Rattle.cisco_reader.specs.declared.services.PortPart.{PortPart}
 use Rattle.cisco_reader.specs.declared.services.Service.{Service}
-use Rattle.cisco_reader.specs.declared.packets.TheConstants.{MAX_LIST}
 use Rattle.cisco_reader.specs.declared.fault.LineFault.{LineFault}
 use Rattle.cisco_reader.specs.declared.fault.LineKind.TheVariants.{FileTooLong, LargeGroup}
 use Rattle.cisco_reader.specs.Groups.{ListedGroup, groups_of}
@@ -124,7 +123,7 @@ all_rules groups asked entries = all_after (with_rules groups asked) [] entries
 
 -- how many bytes a configuration may have
 abbrev pub max_list : ℕ
-max_list = MAX_LIST
+max_list = 16777216
 
 -- the rules of the list of a name in a configuration, in their order, or the first fault: of
 -- texts, of the heads of groups, of lines, and then of the members that the list's entries need

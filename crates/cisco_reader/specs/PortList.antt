@@ -3,7 +3,6 @@
 use Rattle.std.specs.Prelude.{ℕ, ◌+◌, ◌-◌, ◌==◌, nat_le, if◌then◌else◌, List, [], ◌∷◌, ◌++◌, length}
 use Rattle.std.specs.Prelude.{Option, Some, None, Result, Err}
 use Rattle.list_chains.specs.declared.span.Span.{Span}
-use Rattle.cisco_reader.specs.declared.port_list.TheConstants.{MAX_PORTS}
 use Rattle.cisco_reader.specs.declared.fault.LineKind.{LineKind}
 use Rattle.cisco_reader.specs.declared.fault.LineKind.TheVariants.{BadPort, ManyPorts}
 use Rattle.cisco_reader.specs.Names.{max_port, port_of}
@@ -23,7 +22,7 @@ ports_below port = if port == 0 then [] else ports_between 0 (port - 1)
 
 -- how many ports may stand after eq and neq
 abbrev pub max_ports : ℕ
-max_ports = MAX_PORTS
+max_ports = 10
 
 -- the ports are all where there is one, and the next word is none
 abbrev pub ended : List Span → List (List ℕ) → Result (After (List Span)) LineKind
