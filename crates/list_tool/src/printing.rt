@@ -92,12 +92,12 @@ fn rules_for(
 }
 
 /// The text of some rules, by the lines of the list and the numbers of the rules.
-fn text_of_rules(
+fn text_of_rules<'a>(
     alloc: Global,
-    request: &Request,
-    bytes: &[u8],
+    request: &Request<'a>,
+    bytes: &'a [u8],
     by_line: &RuleSet,
-    set: &RuleSet,
+    set: &'a RuleSet,
 ) -> Result<Vec<u8>, Refusal>
     requires { set.now.layout ≡ fields_of (family_of request.now.form) }
     ensures { IsTextOfRules (premises (request_of request.now)) request.now.form bytes.now
@@ -228,7 +228,7 @@ fn commented<'a>(
     by_line: &[StoredRule],
     rules: &'a [StoredRule],
 ) -> Result<Vec<ListLine<'a>>, AllocError>
-    ensures { IfOk result (λ lines. line_views lines.items ≡ line_views head.items
+    ensures { IfOk result (λ lines. line_views lines.items ≡ line_views head.entry.items
         ++ commented form (map (λ text. text.now) texts.now) by_line.now 0 rules.now) }
 {
     let mut lines = head;
