@@ -1,6 +1,6 @@
 -- The tables of a save, and the chains of each that packets come to by themselves (iptables(8),
 -- "TABLES"). Tables have such chains at the hooks of netfilter, where packets pass all of them.
-use Rattle.std.specs.Prelude.{ℕ, ◌==◌, Bool, true, false, not, ◌&&◌, ◌||◌, is_some, if◌then◌else◌}
+use Rattle.std.specs.Prelude.{ℕ, ◌==◌, Bool, true, false, not, ◌||◌, is_some, if◌then◌else◌}
 use Rattle.std.specs.Prelude.{codes, List, [], ◌∷◌, Option, Some, None}
 use Rattle.std.specs.List.{list_any}
 use Rattle.std.specs.Str.{bytes_eq}
