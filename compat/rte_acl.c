@@ -25,7 +25,6 @@ enum {
     SHORT_SLEEP = 50000,   /* nanoseconds */
     CACHE_LINE = 64,       /* bytes */
     WORD = 8,              /* bytes of a word of a table */
-    USUAL_WORDS = 8388608, /* 64 MiB */
     GROUP = 4,             /* bytes of a group of fields */
     MOST_GROUPS = 126,     /* 63 fields of 8 bytes */
     KEYS_AT_A_TIME = 8192, /* bytes of the keys that are gathered before they are classified */

@@ -151,10 +151,8 @@ static int fill_context(const struct rte_acl_ctx *ctx, const struct rte_acl_conf
 }
 
 /*
- * Builds the table of a context under a limit of bytes, or of what aclc.h allows where it is 0.
- *
- * Rules are split into tries as the budget asks for. So the usual one comes first: without it,
- * rules that hardly go together would take the whole limit before they are split.
+ * Makes the table, and tells its words: the small one that aclc.h makes under no budget, or, if a
+ * limit is given that it passes, one of as many tries as the limit asks for.
  */
 static int build_table(struct aclc_context *context, size_t max_size, uint64_t *words)
 {
@@ -165,8 +163,8 @@ static int build_table(struct aclc_context *context, size_t max_size, uint64_t *
         limit = ACLC_MAX_WORDS;
     if (limit == 0)
         return -ERANGE;
-    code = aclc_build(context, limit < USUAL_WORDS ? limit : USUAL_WORDS, words);
-    if (code == ACLC_TOO_LARGE && limit > USUAL_WORDS)
+    code = aclc_build(context, 0, words);
+    if (code == ACLC_OK && *words > limit)
         code = aclc_build(context, limit, words);
     if (code != ACLC_TOO_LARGE)
         return number_of(code);

@@ -255,14 +255,15 @@ aclc_code aclc_add_rules(struct aclc_context *context, const struct aclc_rule *r
  * which aclc_table_sizes tells, are of the others. A rule is wide if three fifths of the key's
  * bytes or more are of fields that let through everything.
  *
- * budget: how many words of 8 bytes the table may have, from 1 to ACLC_MAX_WORDS; or 0: then it
- * is 8,388,608 (64 MiB) if the table fits in that, and else ACLC_MAX_WORDS, after a second build.
+ * budget: how many words of 8 bytes the table may have, from 1 to ACLC_MAX_WORDS; or 0, which
+ * serves most programs: then groups of rules are looked for that need few words and little time.
  * words: on ACLC_OK the words of the new table, on ACLC_TOO_LARGE those at which the split ended,
  * which are more than the budget: with just so many a build may be refused again; else it stays.
  *
  * ACLC_EMPTY: the handle is empty.
  * ACLC_BAD_BUDGET: the budget is above ACLC_MAX_WORDS.
- * ACLC_TOO_LARGE: the table needs more words than the budget. The table of the build before stays.
+ * ACLC_TOO_LARGE: the table needs more words than the budget, or under 0 more than ACLC_MAX_WORDS.
+ * The table of the build before stays.
  * ACLC_NO_MEMORY: likewise. It takes memory for the table and for what it is made of, and gives
  * that back.
  */

@@ -8,7 +8,7 @@ use Rattle.table_sizes.specs.Sizes.{max_words}
 use Rattle.covered_rules.specs.Covered.{uncovered_set}
 use Rattle.rule_split.specs.Split.{total_of}
 use Rattle.table_fill.specs.Serves.{Serves}
-use Rattle.acl_context.specs.Context.{built_of, with_rules}
+use Rattle.acl_context.specs.Context.{built_of, with_rules, HoldsAll}
 use Rattle.acl_context.specs.declared.add.AddFault.{AddFault}
 use Rattle.acl_context.specs.declared.add.AddFault.TheVariants as faults
 use Rattle.acl_context.specs.Add.{add_fault}
@@ -29,22 +29,6 @@ use Rattle.acl_c.specs.declared.context.Context.{Context}
 -- how many words a table may have
 abbrev pub is_budget : ℕ → Bool
 is_budget budget = nat_le 1 budget && nat_le budget max_words
-
--- the budget that is tried first where none is given
-abbrev pub first_budget : ℕ
-first_budget = 8388608
-
--- The budget of a build, by the words of a table under each: the one that is given. By 0 it is the
--- first one where the table fits in it, and else the greatest.
-abbrev pub budget_by : (ℕ → ℕ) → ℕ → ℕ
-budget_by total given =
-    if given == 0
-    then (if nat_le (total first_budget) first_budget then first_budget else max_words)
-    else given
-
--- that of a build of the uncovered rules of a set
-abbrev pub budget_of : RuleSetView → ℕ → ℕ
-budget_of set given = budget_by (total_of (uncovered_set set)) given
 
 -- the code is one of these
 abbrev pub is_among : List ℕ → ℕ → Bool
@@ -91,6 +75,26 @@ pub record Builds (budget : ℕ) (old : Context) (new : Option Context) (before 
   pub kept : (code == ok) ≡ false → new ≡ Some old
   pub answer : is_budget budget ≡ true → is_among (ok ∷ no_memory ∷ too_large ∷ []) code ≡ true
   pub bad : is_budget budget ≡ false → code ≡ bad_budget
+
+-- The context has another table, of so many words, and all else as it was. The table holds all of
+-- its uncovered rules.
+pub record IsSmall (old : Context) (words : ℕ) (new : Context) : Type 0 where
+  pub is : new ≡ record old { acl = record old.acl { table = new.acl.table } }
+  pub some : IsSome new.acl.table
+  pub holds : IfSome new.acl.table (HoldsAll (uncovered_set old.acl.set))
+  pub words_are : words ≡ words_in new.acl.table
+
+-- What a build under no budget makes of what a handle leads to, of the words that it tells, and
+-- what it answers. The table holds all of the uncovered rules, whichever its tries are, and these
+-- decide as all rules do. If it is too large, so is that of the greatest budget.
+pub record BuildsSmall (old : Context) (new : Option Context) (before after code : ℕ) : Type 0 where
+  pub built : code ≡ ok → IsSome new × IfSome new (IsSmall old after)
+  pub decides : code ≡ ok → DecidesAs (uncovered_set old.acl.set) old.acl.set
+  pub large : code ≡ too_large →
+      (after ≡ total_of (uncovered_set old.acl.set) max_words) × (max_words < after)
+  pub other : is_among (ok ∷ too_large ∷ []) code ≡ false → after ≡ before
+  pub kept : (code == ok) ≡ false → new ≡ Some old
+  pub answer : is_among (ok ∷ no_memory ∷ too_large ∷ []) code ≡ true
 
 -- what a classification by a table answers
 abbrev pub table_code : Option TableView → ℕ → ℕ → ℕ → ℕ → ℕ → ℕ

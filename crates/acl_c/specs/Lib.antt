@@ -1,6 +1,5 @@
 pub mod Batch
 pub mod Calls
-pub mod CallsExamples
 pub mod Codes
 pub mod Given
 pub mod Handle

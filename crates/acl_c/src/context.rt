@@ -15,7 +15,7 @@ ghost use Rattle.acl_c.specs.Codes.{ok, no_memory, not_built, bad_budget, too_la
 ghost use Rattle.acl_c.specs.Shared.{without_lanes};
 ghost use Rattle.acl_c.specs.Calls.{is_budget, with_table, without_rules, without_all, words_in, is_among};
 ghost use Rattle.acl_c.specs.Calls.{context_code, code_of, told_of, AddsStored, AddsGiven};
-ghost use Rattle.acl_c.specs.Calls.{Builds, budget_of};
+ghost use Rattle.acl_c.specs.Calls.{Builds, BuildsSmall};
 ghost use Rattle.acl_c.specs.Keys.{ClassifiesKeys};
 ghost use Rattle.acl_c.specs.Marks.{Marks};
 
@@ -33,9 +33,6 @@ use std::alloc::{AllocError, Global};
 use std::marker::Brand;
 use std::sync::ledger::Blank;
 use table_sizes::{MAX_KEYS, MAX_WORDS};
-
-/// The budget that is tried first where none is given: 64 MiB serve most lists.
-const FIRST_BUDGET: u64 = 8_388_608;
 
 /// A context, and the rows of its walks by lanes.
 #[derive(Drop)]
@@ -80,23 +77,37 @@ impl Context {
         }
     }
 
-    /// Makes the table of the uncovered rules under a budget, and tells its words, or those that it
-    /// would need. By 0 the budget is the first one, and if the table doesn't fit in it, the
-    /// greatest.
+    /// Makes the table of the uncovered rules under a budget, or by 0 a small one, and tells its
+    /// words, or those that it would need.
     pub(crate) fn build(&mut self, budget: u64, words: &mut u64) -> u32
-        ensures { Builds (budget_of self.old.acl.set budget) self.old (Some self.new)
-            words.old words.new result }
+        ensures given { 0 < budget →
+            Builds budget self.old (Some self.new) words.old words.new result }
+        ensures small { budget ≡ 0 →
+            BuildsSmall self.old (Some self.new) words.old words.new result }
     {
-        if budget > 0 {
-            return self.build_within(budget, words);
+        if budget == 0 {
+            self.build_small(words)
+        } else {
+            self.build_within(budget, words)
         }
-        let mut told = *words;
-        let code = self.build_within(FIRST_BUDGET, &mut told);
-        if code == TOO_LARGE {
-            return self.build_within(MAX_WORDS as u64, words);
+    }
+
+    /// Makes a small table of the uncovered rules, and tells its words, or those that it would
+    /// need.
+    fn build_small(&mut self, words: &mut u64) -> u32
+        ensures { BuildsSmall self.old (Some self.new) words.old words.new result }
+    {
+        match self.acl.build_small() {
+            Ok(()) => {
+                *words = self.words();
+                OK
+            }
+            Err(BuildFault::TooLarge { words: more, .. }) => {
+                *words = more;
+                TOO_LARGE
+            }
+            Err(BuildFault::OutOfMemory) => NO_MEMORY,
         }
-        *words = told;
-        code
     }
 
     /// Makes the table of the uncovered rules under this budget, and tells its words, or those that

@@ -8,7 +8,7 @@ ghost use Rattle.acl_c.specs.Codes.{ok, no_memory, empty_handle, taken_handle, b
 ghost use Rattle.acl_c.specs.Given.{def_of, fields_fault};
 ghost use Rattle.acl_c.specs.Calls.{new_context, without_rules, without_all, words_in, Builds};
 ghost use Rattle.acl_c.specs.Calls.{IfHeld, place_of, AddsGiven, Classifies, Reserves};
-ghost use Rattle.acl_c.specs.Calls.{budget_of};
+ghost use Rattle.acl_c.specs.Calls.{BuildsSmall};
 ghost use Rattle.acl_c.specs.Marks.{Marks};
 ghost use Rattle.acl_c.specs.Texts.{error_text};
 
@@ -70,7 +70,8 @@ pub extern "C" fn aclc_proved_create(
     }
 }
 
-/// Makes the table of the rules that the context holds, in place of the one before.
+/// Makes the table of the rules that the context holds, in place of the one before: under a budget,
+/// or by 0 a small one.
 #[unsafe(no_mangle)]
 pub extern "C" fn aclc_proved_build(
     alloc: Global,
@@ -80,9 +81,10 @@ pub extern "C" fn aclc_proved_build(
 ) -> u32
     ensures empty { context.old.slot.inside ≡ None → (result ≡ empty_handle)
         × (context.new.slot.inside ≡ None) × (words.new ≡ words.old) }
-    ensures held { (old : Context) → context.old.slot.inside ≡ Some old →
-        Builds (budget_of old.acl.set budget) old context.new.slot.inside words.old words.new
-        result }
+    ensures held { (old : Context) → context.old.slot.inside ≡ Some old → 0 < budget →
+        Builds budget old context.new.slot.inside words.old words.new result }
+    ensures small { (old : Context) → context.old.slot.inside ≡ Some old → budget ≡ 0 →
+        BuildsSmall old context.new.slot.inside words.old words.new result }
 {
     if !context.is_held() {
         return EMPTY;
