@@ -36,12 +36,12 @@ module _ (request : Request) (bytes : List ℕ) (by_line : RuleSetView) (its : A
 
   -- the text is that of both
   text_by : (rules : List RuleView) → rules_for request bytes its ≡ Ok rules →
-      text_of request bytes ≡ text_of_rules (premises request) request.form bytes by_line.rules rules
+      text_of request bytes ≡ text_of_rules (premises request bytes) request.form bytes by_line.rules rules
   text_by rules are = rw (lines.rules) (rw asked (rw are refl))
 
   -- it is told, or refused
   pub text_ends : (set : RuleSetView) → ListedFor request bytes its set → (result : Result (Vec ℕ Global) Refusal) →
-      IsTextOfRules (premises request) request.form bytes by_line.rules set.rules result → IsTextOf request bytes result
+      IsTextOfRules (premises request bytes) request.form bytes by_line.rules set.rules result → IsTextOf request bytes result
   text_ends set listed (Ok text) it = record {
     text = text_by set.rules listed.rules ∙ it.text;
     decides = record {

@@ -1,6 +1,7 @@
 -- What the rules of a rule file presuppose of packets, as the comments above them say it: which chain
 -- they decide as, what is assumed, which packets are meant, and what the userdata is.
-use Rattle.std.specs.Prelude.{◌≡◌, ℕ, List, [], ◌∷◌, codes, refl}
+use Rattle.std.specs.Prelude.{◌≡◌, ℕ, List, [], ◌∷◌, codes, if◌then◌else◌, refl}
+use Rattle.iptables_reader.specs.SavedTables.{has_other_tables}
 use Rattle.iptables_reader.specs.declared.answers.Answers.{Answers}
 use Rattle.iptables_reader.specs.declared.answers.Answers.TheVariants.{Line, Verdict}
 use Rattle.list_tool.specs.declared.words.Form.{Form}
@@ -9,11 +10,26 @@ use Rattle.list_tool.specs.Words.{Request}
 
 -- the chain or the list whose name stands in the next comment
 abbrev pub subject_text : Form → List ℕ
-subject_text Iptables = codes "IPv4 packets that come to this chain of filter, other tables apart:"
-subject_text Ip6tables = codes "IPv6 packets that come to this chain of filter, other tables apart:"
+subject_text Iptables = codes "IPv4 packets that come to this chain of filter:"
+subject_text Ip6tables = codes "IPv6 packets that come to this chain of filter:"
 subject_text Cisco = codes "IPv4 packets that this access list is applied to:"
-subject_text Nft = codes "IPv4 packets that come to this base chain, other base chains apart:"
-subject_text Nft6 = codes "IPv6 packets that come to this base chain, other base chains apart:"
+subject_text Nft = codes "IPv4 packets that come to this base chain:"
+subject_text Nft6 = codes "IPv6 packets that come to this base chain:"
+
+-- what is known of other tables
+abbrev pub tables_text : List ℕ → List ℕ
+tables_text bytes =
+    if has_other_tables bytes then codes "No other table of this list drops them."
+    else codes "Other tables weren't in this list, so whether one drops them isn't known."
+
+-- What else of the list, or beside it, may drop them. Tables of a save were read, if it has any but
+-- filter: a list of which one may drop them is refused.
+abbrev pub beside_text : Form → List ℕ → List ℕ
+beside_text Iptables bytes = tables_text bytes
+beside_text Ip6tables bytes = tables_text bytes
+beside_text Cisco bytes = codes "Whether another access list drops them isn't known."
+beside_text Nft bytes = codes "Whether another base chain drops them isn't known."
+beside_text Nft6 bytes = codes "Whether another base chain drops them isn't known."
 
 -- what is assumed of each of them
 abbrev pub assumed_text : List ℕ → List ℕ
@@ -51,11 +67,12 @@ data_text Nft Line = codes "data= is the handle of the rule that decides, or of 
 data_text Nft6 Line = codes "data= is the handle of the rule that decides, or of the chain by its policy."
 data_text form Verdict = codes "data= is 1 to accept, 2 to drop and 3 to reject."
 
--- all of it
-abbrev pub premises : Request → List (List ℕ)
-premises request =
+-- all of it, for the bytes of a list
+abbrev pub premises : Request → List ℕ → List (List ℕ)
+premises request bytes =
     subject_text request.form
     ∷ request.chain
+    ∷ beside_text request.form bytes
     ∷ codes "Of each of them this is assumed:"
     ∷ assumed_text request.options.assumed
     ∷ headers_text request.form
@@ -71,9 +88,10 @@ of_input : premises (record {
   file = codes "fw.list";
   chain = codes "INPUT";
   options = record { answers = Line; assumed = codes "in=eth0" };
-})
-    ≡ codes "IPv4 packets that come to this chain of filter, other tables apart:"
+}) (codes "*filter\nCOMMIT\n")
+    ≡ codes "IPv4 packets that come to this chain of filter:"
     ∷ codes "INPUT"
+    ∷ codes "Other tables weren't in this list, so whether one drops them isn't known."
     ∷ codes "Of each of them this is assumed:"
     ∷ codes "in=eth0"
     ∷ codes "Headers are complete: legacy iptables drops others at -m tcp, udp and sctp."
@@ -88,9 +106,10 @@ of_router : premises (record {
   file = codes "edge";
   chain = codes "110";
   options = record { answers = Verdict; assumed = [] };
-})
+}) []
     ≡ codes "IPv4 packets that this access list is applied to:"
     ∷ codes "110"
+    ∷ codes "Whether another access list drops them isn't known."
     ∷ codes "Of each of them this is assumed:"
     ∷ codes "nothing"
     ∷ codes "Headers are complete."
@@ -98,3 +117,8 @@ of_router : premises (record {
     ∷ codes "data= is 1 to accept, 2 to drop and 3 to reject."
     ∷ []
 of_router = refl
+
+-- a save of all tables
+of_a_save : tables_text (codes "*raw\nCOMMIT\n*filter\nCOMMIT\n")
+    ≡ codes "No other table of this list drops them."
+of_a_save = refl

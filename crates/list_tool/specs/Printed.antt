@@ -116,4 +116,4 @@ abbrev pub text_of : Request → List ℕ → Result (List ℕ) ListFault
 text_of request bytes =
     rules_for request bytes answers.Line >>= λ by_line.
     rules_for request bytes request.options.answers >>= λ rules.
-    text_of_rules (premises request) request.form bytes by_line rules
+    text_of_rules (premises request bytes) request.form bytes by_line rules

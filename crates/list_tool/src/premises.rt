@@ -2,28 +2,31 @@
 
 ghost use Rattle.std.specs.Prelude.{◌≡◌, ◌++◌, ◌∷◌, [], map, IfOk, OnOk};
 ghost use Rattle.printed_lists.specs.Listed.{Comment, line_views};
-ghost use Rattle.list_tool.specs.Premises.{assumed_text, data_text, fragments_text, headers_text};
-ghost use Rattle.list_tool.specs.Premises.{premises, subject_text};
+ghost use Rattle.list_tool.specs.Premises.{assumed_text, beside_text, data_text, fragments_text};
+ghost use Rattle.list_tool.specs.Premises.{headers_text, premises, subject_text, tables_text};
 ghost use Rattle.list_tool.specs.Requests.{request_of};
 
 use crate::words::{Form, Request};
-use iptables_reader::Answers;
+use iptables_reader::{Answers, has_other_tables};
 use printed_lists::ListLine;
 use std::alloc::{AllocError, Global};
 
-/// The comments above the rules of a rule file: which chain they decide as, what is assumed of
-/// packets, which packets are meant, and what the userdata is.
+/// The comments above the rules of a rule file: which chain they decide as, what else may drop the
+/// packets, what is assumed of them, which packets are meant, and what the userdata is. `bytes` is
+/// the list.
 pub(crate) fn premises<'a>(
     alloc: Global,
     request: &Request<'a>,
+    bytes: &[u8],
 ) -> Result<Vec<ListLine<'a>>, AllocError>
     ensures { IfOk result (λ lines. line_views lines.items
-        ≡ map (λ text. Comment text) (premises (request_of request.now))) }
+        ≡ map (λ text. Comment text) (premises (request_of request.now) bytes.now)) }
 {
     let form = request.form;
     let mut lines = Vec::new(alloc);
     push_comment(&mut lines, subject_text(form))?;
     push_comment(&mut lines, request.chain.as_bytes())?;
+    push_comment(&mut lines, beside_text(form, bytes))?;
     push_comment(&mut lines, b"Of each of them this is assumed:")?;
     push_comment(&mut lines, assumed_text(request.options.assumed))?;
     push_comment(&mut lines, headers_text(form))?;
@@ -46,11 +49,33 @@ fn subject_text(form: Form) -> &'static [u8]
     ensures { result.now ≡ subject_text form }
 {
     match form {
-        Form::Iptables => b"IPv4 packets that come to this chain of filter, other tables apart:",
-        Form::Ip6tables => b"IPv6 packets that come to this chain of filter, other tables apart:",
+        Form::Iptables => b"IPv4 packets that come to this chain of filter:",
+        Form::Ip6tables => b"IPv6 packets that come to this chain of filter:",
         Form::Cisco => b"IPv4 packets that this access list is applied to:",
-        Form::Nft => b"IPv4 packets that come to this base chain, other base chains apart:",
-        Form::Nft6 => b"IPv6 packets that come to this base chain, other base chains apart:",
+        Form::Nft => b"IPv4 packets that come to this base chain:",
+        Form::Nft6 => b"IPv6 packets that come to this base chain:",
+    }
+}
+
+/// What else may drop the packets.
+fn beside_text(form: Form, bytes: &[u8]) -> &'static [u8]
+    ensures { result.now ≡ beside_text form bytes.now }
+{
+    match form {
+        Form::Iptables | Form::Ip6tables => tables_text(bytes),
+        Form::Cisco => b"Whether another access list drops them isn't known.",
+        Form::Nft | Form::Nft6 => b"Whether another base chain drops them isn't known.",
+    }
+}
+
+/// What is known of other tables of a save.
+fn tables_text(bytes: &[u8]) -> &'static [u8]
+    ensures { result.now ≡ tables_text bytes.now }
+{
+    if has_other_tables(bytes) {
+        b"No other table of this list drops them."
+    } else {
+        b"Other tables weren't in this list, so whether one drops them isn't known."
     }
 }
 

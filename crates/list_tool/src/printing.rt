@@ -100,7 +100,7 @@ fn text_of_rules<'a>(
     set: &'a RuleSet,
 ) -> Result<Vec<u8>, Refusal>
     requires { set.now.layout ≡ fields_of (family_of request.now.form) }
-    ensures { IsTextOfRules (premises (request_of request.now)) request.now.form bytes.now
+    ensures { IsTextOfRules (premises (request_of request.now) bytes.now) request.now.form bytes.now
         by_line.now.rules set.now.rules result }
 {
     let form = request.form;
@@ -114,7 +114,7 @@ fn text_of_rules<'a>(
         }));
     }
     let texts = lines_of(alloc, bytes)?;
-    let head = premises(alloc, request)?;
+    let head = premises(alloc, request, bytes)?;
     let lines = commented(head, form, &texts, numbered, rules)?;
     let mut text = Vec::new(alloc);
     put_list(alloc, &mut text, family, &lines)?;

@@ -12,8 +12,9 @@ COMMIT
 
 /// Its rules, each with the number of its line.
 pub(crate) const SAVED_LINES: &str =
-    "# IPv4 packets that come to this chain of filter, other tables apart:
+    "# IPv4 packets that come to this chain of filter:
 # INPUT
+# Other tables weren't in this list, so whether one drops them isn't known.
 # Of each of them this is assumed:
 # nothing
 # Headers are complete: legacy iptables drops others at -m tcp, udp and sctp.
@@ -27,8 +28,9 @@ pub(crate) const SAVED_LINES: &str =
 
 /// The same with verdicts: 1 accepts and 2 drops.
 pub(crate) const SAVED_VERDICTS: &str =
-    "# IPv4 packets that come to this chain of filter, other tables apart:
+    "# IPv4 packets that come to this chain of filter:
 # INPUT
+# Other tables weren't in this list, so whether one drops them isn't known.
 # Of each of them this is assumed:
 # nothing
 # Headers are complete: legacy iptables drops others at -m tcp, udp and sctp.
@@ -45,8 +47,9 @@ pub(crate) const SAVED6: &str = "*filter\n:FORWARD DROP [0:0]\nCOMMIT\n";
 
 /// A chain without rules lets its policy decide, which has the number of its line.
 pub(crate) const SAVED6_LINES: &str =
-    "# IPv6 packets that come to this chain of filter, other tables apart:
+    "# IPv6 packets that come to this chain of filter:
 # FORWARD
+# Other tables weren't in this list, so whether one drops them isn't known.
 # Of each of them this is assumed:
 # nothing
 # Headers are complete, without AH: legacy ip6tables drops others, or looks behind AH.
@@ -65,6 +68,7 @@ pub(crate) const ROUTER: &str = "ip access-list extended EDGE
 /// Its rules.
 pub(crate) const ROUTER_LINES: &str = "# IPv4 packets that this access list is applied to:
 # EDGE
+# Whether another access list drops them isn't known.
 # Of each of them this is assumed:
 # nothing
 # Headers are complete.
@@ -88,8 +92,9 @@ pub(crate) const RULESET: &str = r#"{"nftables":[
 
 /// Its rules, each with its handle, the chain's where its policy decides.
 pub(crate) const RULESET_LINES: &str =
-    "# IPv4 packets that come to this base chain, other base chains apart:
+    "# IPv4 packets that come to this base chain:
 # in
+# Whether another base chain drops them isn't known.
 # Of each of them this is assumed:
 # nothing
 # Headers are complete: on others a match of ports fails.

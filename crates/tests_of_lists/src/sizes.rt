@@ -8,8 +8,9 @@ use std::test::Fail;
 const RULES: u32 = 2000;
 
 /// What the rule file says of its packets.
-const PREMISES: &str = "# IPv4 packets that come to this chain of filter, other tables apart:
+const PREMISES: &str = "# IPv4 packets that come to this chain of filter:
 # INPUT
+# Other tables weren't in this list, so whether one drops them isn't known.
 # Of each of them this is assumed:
 # nothing
 # Headers are complete: legacy iptables drops others at -m tcp, udp and sctp.

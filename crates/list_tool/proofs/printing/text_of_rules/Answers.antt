@@ -16,7 +16,7 @@ pub put_list-requires : goal.put_list-requires
 put_list-requires c =
     let its = c.family_of-family.result in
     let form = c.args.request.now.form in
-    let head = premises (request_of c.args.request.now) in
+    let head = premises (request_of c.args.request.now) c.args.bytes.now in
     let texts = map (λ text. text.now) c.deref.result.now in
     let by_line = c.all-numbered.result.now in
     let none = ap (first_odd its by_line 0) (sym c.all-rules.ensures.rules) ∙ sym c.in_default.ensures in
@@ -28,7 +28,7 @@ put_list-requires c =
 pub returns : goal.returns
 returns c =
     let form = c.args.request.now.form in
-    let head = premises (request_of c.args.request.now) in
+    let head = premises (request_of c.args.request.now) c.args.bytes.now in
     let same = c.family_of-family.ensures in
     let by_line = c.args.by_line.now.rules in
     let rules = c.args.set.now.rules in
@@ -59,7 +59,7 @@ returns c =
 pub returns-then-is_too_long : goal.returns-then-is_too_long
 returns-then-is_too_long c =
     let form = c.args.request.now.form in
-    let head = premises (request_of c.args.request.now) in
+    let head = premises (request_of c.args.request.now) c.args.bytes.now in
     let same = c.family_of-family.ensures in
     let by_line = c.args.by_line.now.rules in
     let rules = c.args.set.now.rules in
