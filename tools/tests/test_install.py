@@ -186,6 +186,24 @@ class Install(unittest.TestCase):
             code, said = self.run_script(f"packaging/{name}", *words, **more)
             self.assertEqual((code, said.count("\n")), (2, 1), said)
 
+    @unittest.skipUnless(all(map(shutil.which, ("git", "gcc", "dpkg-deb", "dpkg-shlibdeps", "pkg-config"))), "no packages are made here")
+    def test_packages_are_of_one_commit(self):
+        """A checkout with a change, or a file that git doesn't know, is refused before anything is proved or written."""
+        git = ["git", "-C", str(self.folder), "-c", "user.name=x", "-c", "user.email=x@example.org"]
+        for words in (["init", "-q"], ["add", "VERSION", "LICENSE"], ["commit", "-q", "-m", "all"]):
+            self.assertEqual(done([*git, *words])[0], 0)
+        code, said = self.run_script("packaging/make", self.folder / "packages", PAGE="no")
+        self.assertEqual((code, "isn't as it was committed" in said), (1, True), said)
+        done([*git, "add", "."])
+        done([*git, "commit", "-q", "-m", "rest"])
+        (self.folder / "LICENSE").write_text("changed")
+        code, said = self.run_script("packaging/make", self.folder / "packages", PAGE="no")
+        self.assertEqual((code, "of no commit:  M LICENSE" in said), (1, True), said)
+        done([*git, "commit", "-q", "-a", "-m", "changed"])
+        code, said = self.run_script("packaging/make", self.folder / "packages", PAGE="no")
+        self.assertEqual((code, "isn't as it was committed" in said), (1, False), said)
+        self.assertEqual(self.run_script("packaging/make", self.folder / "packages", PAGE="maybe")[0], 2)
+
     def test_a_folder_that_pkg_config_or_cmake_would_misread_is_refused(self):
         for name in ("a&b", "a|b", "a#b", "a;b", "a$b", 'a"b', "a\\b", "a\nb", "a\n", "a\tb", "a ", "a&b/c"):
             code, said = self.run_script("include/install", self.folder / "odd" / name)
