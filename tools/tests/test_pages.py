@@ -32,7 +32,7 @@ def help_of(name):
 
 def told(name):
     """The options that a help names where it explains them, or how it is called."""
-    text = help_of(name)
+    text = re.sub(r",\n +(?=-)", ", ", help_of(name))
     rows = re.findall(r"(?m)^    (-.*?|[a-z-]+=.*?|aclc .*?)(?:  .*)?$", text)
     signs = {sign.group(0) for sign in (re.match(r"[a-z-]+=", row) for row in rows) if sign}
     return signs | {word for row in rows for word in re.findall(r"(?<![\w-])-+[a-z][a-z-]*", row)}
