@@ -8,12 +8,14 @@ import { answerOf } from './sentence.js';
 import { rulesView } from './rules_view.js';
 import { packetsView } from './packets_view.js';
 import { timeView } from './time_view.js';
+import { askView } from './ask_view.js';
 import { twoListsView } from './two_lists_view.js';
 import { refusalsView, remarksOf } from './refusals_view.js';
 import { aboutView } from './about_view.js';
 import { packetDetails, ruleDetails } from './side.js';
 import { filesView, startLive } from './live.js';
 import { startPrinting } from './print.js';
+import { addressOf, restore } from './address.js';
 
 const $ = (id) => document.getElementById(id);
 
@@ -22,6 +24,25 @@ class Page {
     this.report = null;
     this.live = null;
     this.view = '';
+    this.opened = null;
+    this.isRestoring = false;
+  }
+
+  // Notes what is looked at in the address: as a step that the browser goes back to, or in place of the last one.
+  remember(isStep) {
+    const { hash } = globalThis.location;
+    if (!this.report || this.isRestoring || addressOf(this) === hash) return;
+    history[isStep && hash ? 'pushState' : 'replaceState'](null, '', addressOf(this));
+  }
+
+  // Shows what the address says. Whether it names a view.
+  restore() {
+    this.isRestoring = true;
+    try {
+      return restore(this, globalThis.location.hash);
+    } finally {
+      this.isRestoring = false;
+    }
   }
 
   // Takes a report, and shows the first of its views.
@@ -30,6 +51,7 @@ class Page {
     this.filter = everything();
     this.category = 0;
     this.columns = new Set();
+    this.asked = { protocol: '6', source: '', destination: '', from: '', to: '' };
     this.rules = { choice: 'all', order: 'line', search: '' };
     this.longestEnd = null;
     this.categories = report.categories;
@@ -41,7 +63,7 @@ class Page {
     }
     this.keyed = packets ? packets.outcomes.reduce((sum, it) => sum + (it.kind >= 4 ? it.total : 0), 0) : 0;
     this.head();
-    this.go(this.views().find((it) => it.main)?.name ?? this.views()[0].name);
+    if (!this.restore()) this.go(this.views().find((it) => it.main)?.name ?? this.views()[0].name);
     $('said').textContent = report.list ? answerOf(this).join(' ') : 'Nothing could be shown: a list is refused.';
   }
 
@@ -61,6 +83,7 @@ class Page {
     if (report.packets?.total) {
       found.push({ name: 'packets', title: 'Packets', show: () => packetsView(this) }, { name: 'time', title: 'Time', show: () => timeView(this) });
     }
+    if (report.list) found.push({ name: 'ask', title: 'What if', show: () => askView(this) });
     if (report.old) found.push({ name: 'lists', title: 'Two lists', show: () => twoListsView(this) });
     const bad = report.refusals.length;
     if (bad || remarksOf(report).length) found.push({ name: 'refusals', title: bad ? `Refused (${bad})` : 'Remarks', show: () => refusalsView(this), main: !report.list });
@@ -115,12 +138,16 @@ class Page {
     const views = this.views();
     const view = views.find((it) => it.name === name) ?? views[0];
     this.view = view.name;
+    const { isRestoring } = this;
+    this.isRestoring = true;
     this.close();
+    this.isRestoring = isRestoring;
     $('tabs').replaceChildren(...views.map((it) => make('button', { type: 'button', role: 'tab', id: `tab-${it.name}`, 'aria-controls': 'view',
       'aria-selected': it === view ? 'true' : 'false', tabindex: it === view ? 0 : -1, onclick: () => this.choose(it.name) }, it.title)));
     $('view').setAttribute('aria-labelledby', `tab-${view.name}`);
     $('view').className = view.name;
     this.live?.showWork();
+    this.remember(true);
     $('view').replaceChildren(...view.show().flat(2).filter(Boolean));
   }
 
@@ -150,27 +177,38 @@ class Page {
   }
 
   close(focus) {
+    this.opened = null;
     if ($('side').hidden) return;
     $('side').hidden = true;
     $('body').classList.remove('with-side');
     if (focus && this.back?.isConnected) this.back.focus();
+    this.remember(false);
   }
 
   // Shows the details of what the keys lead to, if details are shown.
   follow(does) {
     if ($('side').hidden) return;
-    const { back } = this;
+    const { back, isRestoring } = this;
+    this.isRestoring = true;
     does();
-    this.back = back;
+    Object.assign(this, { back, isRestoring });
+    this.remember(false);
   }
 
   openRule(place) {
-    if (place >= 0) this.open(ruleDetails(this, place));
-    else this.showRule(-1);
+    if (place < 0) {
+      this.showRule(-1);
+      return;
+    }
+    this.open(ruleDetails(this, place));
+    this.opened = { rule: place };
+    this.remember(true);
   }
 
   openPacket(at) {
     this.open(packetDetails(this, at));
+    this.opened = { packet: at };
+    this.remember(true);
   }
 
   showFiltered(filter) {
@@ -200,6 +238,7 @@ async function start() {
   const page = new Page();
   startPrinting(page);
   $('tabs').addEventListener('keydown', (event) => page.tabKey(event));
+  addEventListener('popstate', () => page.restore());
   document.addEventListener('keydown', (event) => event.key === 'Escape' && page.close(true));
   const element = $('report');
   if (element) {

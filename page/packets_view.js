@@ -206,6 +206,7 @@ export function packetsView(page) {
       return;
     }
     places = found;
+    page.remember(false);
     told.textContent = shownText(page, places.length);
     table.show(places.length);
   };

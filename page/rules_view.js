@@ -144,6 +144,7 @@ export function rulesView(page) {
     rows = rowsOf(page, state);
     told.textContent = `${count(rows.length)} shown`;
     table.show(rows.length);
+    page.remember(false);
   };
   const choices = Object.entries(CHOICES).filter(([value]) => packets || !OF_PACKETS.includes(value));
   const search = make('input', { id: 'search', type: 'search', size: 20, spellcheck: 'false', autocomplete: 'off', oninput: (event) => again({ search: event.target.value }) });

@@ -1,7 +1,7 @@
 // SPDX-License-Identifier: BSD-3-Clause
 // Which entries of a list match a key, in the order in which they would decide. This reading is the page's own. It is
 // compared with what the program answered.
-import { fieldsOf } from './text.js';
+import { addressText, fieldsOf, protocolName } from './text.js';
 
 // Numbers are hexadecimal digits of one width, which sort as numbers.
 const isBetween = (digits, [low, high]) => low <= digits && digits <= high;
@@ -40,6 +40,26 @@ export function matching(list, keyDigits, category) {
   const found = [];
   list.entries.forEach((entry, place) => ruleMatches(entry.match, key, category) && found.push(place));
   return found.sort((one, other) => list.entries[other].match.priority - list.entries[one].match.priority || one - other);
+}
+
+// The entries of a rule file that come before one in the order in which they decide, or all.
+export function ahead(list, place) {
+  const before = (one, other) => list.entries[other].match.priority - list.entries[one].match.priority || one - other;
+  return list.entries.map((_, it) => it).sort(before).filter((it) => place < 0 || before(it, place) < 0);
+}
+
+const SIDES = ['its source doesn’t hold', 'its destination doesn’t hold', 'its source ports don’t hold', 'its destination ports don’t hold'];
+
+// Which field of an entry of a rule file keeps it from matching a key.
+export function missed({ match }, keyDigits, category) {
+  const key = fieldsOf(keyDigits);
+  const [value, mask] = match.protocol;
+  const shown = [addressText(key.source), addressText(key.destination), ...key.ports];
+  if (match.family !== key.family) return `it is of IPv${match.family}`;
+  if (!((match.categories >> category) & 1)) return `it isn’t of category ${category}`;
+  const at = match.sides.findIndex((side, place) => !isBetween(key.numbers[place], side));
+  if (at >= 0) return `${SIDES[at]} ${shown[at]}`;
+  return ((value ^ key.protocol) & mask) === 0 ? 'it matches' : `it isn’t of ${protocolName(key.protocol)}`;
 }
 
 // Why an entry that matches doesn't decide.

@@ -16,7 +16,7 @@ import browsers
 import made
 from aclc_tools import capture, made_by
 from aclc_tools.program import TOP
-from shown import DATA, EDITED, EXAMPLES, FILES, LEAD, OFFICE, PICTURES, SIDE, VIEW, Shown
+from shown import DATA, EDITED, EXAMPLES, FILES, LEAD, OFFICE, PICTURES, SIDE, TEXTS, VIEW, Shown
 
 
 def nanoseconds(text):
@@ -216,9 +216,55 @@ class Views(Looks):
         self.browser.press("Escape")
         self.assertEqual(self.browser.evaluate("document.activeElement.className"), "table")
 
+    def test_the_address_opens_what_was_looked_at(self):
+        page = self.hour()
+        self.open(page)
+        self.tab("packets")
+        self.type("by-port", "22")
+        self.click(2)
+        address, rows, side = self.browser.evaluate(f"[location.hash, {TEXTS}, {SIDE}]")
+        self.assertTrue(address.startswith("#view=packets&port=22&packet="), address)
+        self.open(page + "#view=about")
+        self.assertIn("What answered", self.browser.evaluate(VIEW))
+        self.browser.evaluate(f"(location.hash = {address!r}, 0)")
+        self.browser.until("!document.getElementById('side').hidden", "the address")
+        self.assertEqual(self.browser.evaluate(f"[{TEXTS}, {SIDE}]"), [rows, side])
+        self.browser.evaluate("history.back()")
+        self.browser.until("document.querySelector('[aria-selected=true]').id === 'tab-about'", "the step back")
+        for bad in ("#view=none&rule=9999999&category=99&packet=-1", "#view=rules&entry=x&pair=1&time=5&choice=none", "#%ff", "#view"):
+            self.browser.evaluate(f"(location.hash = {bad!r}, 0)")
+            self.assertTrue(self.browser.evaluate("document.getElementById('view').innerText.length > 20"))
+
+    def test_a_packet_that_is_thought_of_has_the_line_that_decides(self):
+        """As tools/explain names it for packets of these keys, and each earlier line has the field that keeps it from matching."""
+        self.open(self.hour())
+        self.tab("ask")
+
+        def ask(**fields):
+            for name, value in fields.items():
+                self.type(f"ask-{name}", value)
+            self.browser.evaluate("document.getElementById('ask').click()")
+            return self.browser.evaluate("document.getElementById('asked').innerText")
+
+        self.assertIn("Write both addresses", ask())
+        told = ask(source="10.1.2.3", destination="192.0.2.1", to="22")
+        self.assertIn("The program wasn’t asked", told)
+        self.assertIn("line 4 decides\n", told)
+        self.assertIn("line 2 doesn’t match: its source doesn’t hold 10.1.2.3", told)
+        self.assertIn("line 3 doesn’t match: its destination ports don’t hold 22", told)
+        self.assertNotIn("line 5", told)
+        self.assertIn("line 7 decides\n", ask(protocol="1"))
+        self.assertIn("No line matches\n", ask(protocol="17", source="2001:db8::1", destination="2001:db8::2"))
+        for field, bad, said in (("protocol", "256", "at most 255"), ("to", "65536", "at most 65535"), ("source", "10.0.0.0/8", "both addresses"),
+                                 ("source", "10.0.0.1", "both of IPv6")):
+            before = self.browser.evaluate(f"document.getElementById('ask-{field}').value")
+            self.assertIn(said, ask(**{field: bad}))
+            self.type(f"ask-{field}", before)
+        self.picture("asked")
+
     def test_each_field_and_table_has_a_name(self):
         self.open(self.hour())
-        for name in ("rules", "packets", "time", "lists", "about"):
+        for name in ("rules", "packets", "time", "ask", "lists", "about"):
             self.tab(name)
             nameless = self.browser.evaluate("[...document.querySelectorAll('input, select, [role=grid], [role=img], button')].filter(it => "
                                              "!it.labels?.length && !it.ariaLabel && !it.textContent.trim()).map(it => it.outerHTML)")
