@@ -1,46 +1,44 @@
 //! What the rules of a list presuppose of packets, as comments.
 
 ghost use Rattle.std.specs.Prelude.{◌≡◌, ◌++◌, ◌∷◌, [], map, IfOk, OnOk};
-ghost use Rattle.printed_lists.specs.Listed.{Comment, line_views};
 ghost use Rattle.list_tool.specs.Premises.{assumed_text, beside_text, data_text, fragments_text};
 ghost use Rattle.list_tool.specs.Premises.{headers_text, premises, subject_text, tables_text};
 ghost use Rattle.list_tool.specs.Requests.{request_of};
 
 use crate::words::{Form, Request};
 use iptables_reader::{Answers, has_other_tables};
-use printed_lists::ListLine;
 use std::alloc::{AllocError, Global};
 
-/// The comments above the rules of a rule file: which chain they decide as, what else may drop the
-/// packets, what is assumed of them, which packets are meant, and what the userdata is. `bytes` is
-/// the list.
+/// The texts of the comments above the rules of a rule file: which chain they decide as, what else
+/// may drop the packets, what is assumed of them, which packets are meant, and what the userdata is.
+/// `bytes` is the list.
 pub(crate) fn premises<'a>(
     alloc: Global,
     request: &Request<'a>,
     bytes: &[u8],
-) -> Result<Vec<ListLine<'a>>, AllocError>
-    ensures { IfOk result (λ lines. line_views lines.items
-        ≡ map (λ text. Comment text) (premises (request_of request.now) bytes.now)) }
+) -> Result<Vec<&'a [u8]>, AllocError>
+    ensures { IfOk result (λ texts. map (λ text. text.now) texts.items
+        ≡ premises (request_of request.now) bytes.now) }
 {
     let form = request.form;
-    let mut lines = Vec::new(alloc);
-    push_comment(&mut lines, subject_text(form))?;
-    push_comment(&mut lines, request.chain.as_bytes())?;
-    push_comment(&mut lines, beside_text(form, bytes))?;
-    push_comment(&mut lines, b"Of each of them this is assumed:")?;
-    push_comment(&mut lines, assumed_text(request.options.assumed))?;
-    push_comment(&mut lines, headers_text(form))?;
-    push_comment(&mut lines, fragments_text(form))?;
-    push_comment(&mut lines, data_text(form, request.options.answers))?;
-    Ok(lines)
+    let mut texts = Vec::new(alloc);
+    push_text(&mut texts, subject_text(form))?;
+    push_text(&mut texts, request.chain.as_bytes())?;
+    push_text(&mut texts, beside_text(form, bytes))?;
+    push_text(&mut texts, b"Of each of them this is assumed:")?;
+    push_text(&mut texts, assumed_text(request.options.assumed))?;
+    push_text(&mut texts, headers_text(form))?;
+    push_text(&mut texts, fragments_text(form))?;
+    push_text(&mut texts, data_text(form, request.options.answers))?;
+    Ok(texts)
 }
 
-/// Puts a comment after the others.
-fn push_comment<'a>(lines: &mut Vec<ListLine<'a>>, text: &'a [u8]) -> Result<(), AllocError>
-    ensures { OnOk result
-        (line_views lines.new.items ≡ line_views lines.old.items ++ Comment text.now ∷ []) }
+/// Puts a text after the others.
+fn push_text<'a>(texts: &mut Vec<&'a [u8]>, text: &'a [u8]) -> Result<(), AllocError>
+    ensures { OnOk result (map (λ text. text.now) texts.new.items
+        ≡ map (λ text. text.now) texts.old.items ++ text.now ∷ []) }
 {
-    lines.push(ListLine::Comment(text))?;
+    texts.push(text)?;
     Ok(())
 }
 

@@ -115,7 +115,7 @@ fn text_of_rules<'a>(
     }
     let texts = lines_of(alloc, bytes)?;
     let head = premises(alloc, request, bytes)?;
-    let lines = commented(head, form, &texts, numbered, rules)?;
+    let lines = commented(alloc, form, &head, &texts, numbered, rules)?;
     let mut text = Vec::new(alloc);
     put_list(alloc, &mut text, family, &lines)?;
     if is_too_long(&text) {
@@ -222,20 +222,35 @@ fn lines_of<'a>(alloc: Global, bytes: &'a [u8]) -> Result<Vec<&'a [u8]>, AllocEr
 /// The lines of a rule file: those of its head, and each rule, after what is said of its number where
 /// that is another than the number before.
 fn commented<'a>(
-    head: Vec<ListLine<'a>>,
+    alloc: Global,
     form: Form,
+    head: &[&'a [u8]],
     texts: &[&'a [u8]],
     by_line: &[StoredRule],
     rules: &'a [StoredRule],
 ) -> Result<Vec<ListLine<'a>>, AllocError>
-    ensures { IfOk result (λ lines. line_views lines.items ≡ line_views head.entry.items
+    ensures { IfOk result (λ lines. line_views lines.items
+        ≡ map (λ text. Comment text) (map (λ text. text.now) head.now)
         ++ commented form (map (λ text. text.now) texts.now) by_line.now 0 rules.now) }
 {
-    let mut lines = head;
+    let mut lines = headed(alloc, head)?;
     for place in 0..rules.len() {
         let number = number_at(by_line, place);
         let comment = comment_of(form, texts, number_before(by_line, place), number);
         put_rule(&mut lines, comment, &rules[place])?;
+    }
+    Ok(lines)
+}
+
+/// The comments above the rules.
+fn headed<'a>(alloc: Global, head: &[&'a [u8]]) -> Result<Vec<ListLine<'a>>, AllocError>
+    ensures { IfOk result
+        (λ lines. line_views lines.items
+        ≡ map (λ text. Comment text) (map (λ text. text.now) head.now)) }
+{
+    let mut lines = Vec::new(alloc);
+    for place in 0..head.len() {
+        lines.push(ListLine::Comment(head[place]))?;
     }
     Ok(lines)
 }
