@@ -236,7 +236,7 @@ class Views(Looks):
             self.assertTrue(self.browser.evaluate("document.getElementById('view').innerText.length > 20"))
 
     def test_a_packet_that_is_thought_of_has_the_line_that_decides(self):
-        """As tools/explain names it for packets of these keys, and each earlier line has the field that keeps it from matching."""
+        """The line is that of the list by hand; each earlier one has the field that keeps it from matching."""
         self.open(self.hour())
         self.tab("ask")
 
