@@ -14,7 +14,7 @@ from pathlib import Path
 
 from aclc_tools import assume, iptables, lists
 from aclc_tools.lists import printable
-from aclc_tools.program import leave, list_program, note
+from aclc_tools.program import NOTES, leave, list_program, note
 
 # The forms that it reads, and what its lists are called.
 READS = {"iptables": "chain", "nft": "chain", "cisco": "list"}
@@ -116,7 +116,8 @@ def written(options, text, word, chain):
         return Written(None, said)
     if done.returncode != DONE:
         return leave(f"{options.file}: aclc-lists ended with {done.returncode}: {said or 'no message'}", done.returncode)
-    if said:
+    # What it says beside its answer is told once, though it is asked for lines and for verdicts.
+    if said and f"{options.file}: {said}" not in NOTES:
         note(f"{options.file}: {said}")
     lines = [f"# {printable(line[2:])}" if line.startswith("#") else line
              for line in done.stdout.decode(errors="surrogateescape").split("\n")[:-1]]
@@ -154,11 +155,12 @@ def answered(options, text):
     if not by_verdict:
         return None
     found, said, last = [], "", {}
-    for line, verdict in zip(by_line, by_verdict):
+    verdicts = (line for line in by_verdict if not line.startswith("#"))
+    for line in by_line:
         if line.startswith("#"):
             said = line[2:]
             continue
-        one, other = RULE.fullmatch(line), RULE.fullmatch(verdict)
+        one, other = RULE.fullmatch(line), RULE.fullmatch(next(verdicts, ""))
         if not one or not other or one.groups()[:2] != other.groups()[:2] or int(other.group(3)) not in VERDICTS:
             return leave(f"{options.file}: aclc-lists writes a line that isn't read: {line}", 2)
         family = 6 if one.group(1).count(":") > 2 else 4
@@ -166,7 +168,7 @@ def answered(options, text):
             return leave(f"{options.file}: aclc-lists writes rules in another order than their priorities", 2)
         last[family] = int(one.group(2))
         found.append(Answered(one.group(1), int(one.group(3)), VERDICTS[int(other.group(3))], said))
-    if len(by_line) != len(by_verdict):
+    if next(verdicts, None) is not None:
         return leave(f"{options.file}: aclc-lists writes other rules for lines than for verdicts", 2)
     return found
 
