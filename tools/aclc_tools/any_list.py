@@ -278,8 +278,9 @@ class Proved:
                 entry.boxes = [*(entry.boxes or ()), *rule.boxes]
         self.walk = Chains(chains, start, families, ())
         policy = chains[start].policy
-        if policy and (policy.number, policy.verdict) in self.entries:
-            end = self.entries[policy.number, policy.verdict]
+        if policy and policy.verdict in lists.DECIDING:
+            # No packet may come to it, and then it has no rule.
+            end = known.get(policy.number) or self.entry(policy.number, policy.verdict, policy.text)
             end.is_end, end.text = True, end.text if self.written else policy.text
 
     def list(self):
@@ -289,8 +290,8 @@ class Proved:
             line = f"{it.columns}\tdata={it.number}"
             rules.append(rule_file.read_rule(line.encode(), len(rules) + 1, len(rules) + 1))
             self.entry(it.number, it.verdict, it.text).rules.append(rules[-1])
-        if None in self.entries:
-            self.entries[None].is_end = True
+        if FORMS[self.form].end:
+            self.entry(0, FORMS[self.form].end, "").is_end = True
         self.add_others()
         entries = list(self.entries.values())
         if self.written:
