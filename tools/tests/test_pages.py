@@ -1,6 +1,7 @@
 # SPDX-License-Identifier: BSD-3-Clause
 """What help, the manual and the completion of each command tell: the options are those that the command takes."""
 import argparse
+import functools
 import os
 import re
 import shutil
@@ -23,10 +24,12 @@ ALLOWED = TOP / "crates" / "command_words" / "src" / "allowed.rt"
 OF_LISTS = TOP / "crates" / "list_tool" / "src" / "words.rt"
 
 
+@functools.lru_cache(maxsize=None)
 def help_of(name):
     """What is told of a command."""
     if name in TOOLS:
-        return subprocess.run([str(TOP / "tools" / name), "--help"], stdout=subprocess.PIPE, check=True).stdout.decode()
+        words = [sys.executable, "-B", str(TOP / "tools" / name), "--help"]
+        return subprocess.run(words, stdout=subprocess.PIPE, check=True).stdout.decode()
     return (TOP / "docs" / "commands" / name).read_text(encoding="utf-8")
 
 
