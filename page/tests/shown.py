@@ -1,5 +1,6 @@
 # SPDX-License-Identifier: BSD-3-Clause
 """What the tests of the page share: files, pages that tools/report makes of them, and what a user sees and does."""
+import http.server
 import tempfile
 from pathlib import Path
 
@@ -86,3 +87,13 @@ class Shown:
         """Types into a field."""
         self.browser.evaluate(f"(() => {{ const it = document.getElementById('{identifier}'); it.value = {text!r}; "
                               "it.dispatchEvent(new Event(it.tagName === 'SELECT' ? 'change' : 'input')); })()")
+
+
+class PageFolder(http.server.SimpleHTTPRequestHandler):
+    """Serves the page's folder, and says nothing."""
+
+    def __init__(self, *words):
+        super().__init__(*words, directory=str(TOP / "page"))
+
+    def log_message(self, *_):
+        pass

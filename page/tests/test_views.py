@@ -15,8 +15,7 @@ import unittest
 import browsers
 import made
 from aclc_tools import capture, made_by
-from aclc_tools.program import TOP
-from shown import DATA, EDITED, EXAMPLES, FILES, LEAD, OFFICE, PICTURES, SIDE, TEXTS, VIEW, Shown
+from shown import DATA, EDITED, EXAMPLES, FILES, LEAD, OFFICE, PICTURES, SIDE, TEXTS, VIEW, PageFolder, Shown
 
 
 def nanoseconds(text):
@@ -278,7 +277,7 @@ class Views(Looks):
 
     def serve(self):
         """Opens the page's files as a server has them, whose modules may be called; its address."""
-        server = http.server.ThreadingHTTPServer(("127.0.0.1", 0), Quiet)
+        server = http.server.ThreadingHTTPServer(("127.0.0.1", 0), PageFolder)
         threading.Thread(target=server.serve_forever, daemon=True).start()
         self.addCleanup(server.server_close)
         self.addCleanup(server.shutdown)
@@ -469,16 +468,6 @@ class Views(Looks):
         self.assertEqual(self.browser.messages, [])
         own = [it for it in self.browser.requests if not it.startswith(f"http://127.0.0.1:{server.server_port}/")]
         self.assertEqual([it for it in own if not it.startswith(("data:", "about:"))], [])
-
-
-class Quiet(http.server.SimpleHTTPRequestHandler):
-    """Serves the page's folder, and says nothing."""
-
-    def __init__(self, *words):
-        super().__init__(*words, directory=str(TOP / "page"))
-
-    def log_message(self, *_):
-        pass
 
 
 @unittest.skipUnless(browsers.Chromium.path, "chromium isn't installed")
