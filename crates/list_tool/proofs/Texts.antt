@@ -22,7 +22,8 @@ use Rattle.list_tool.proofs.Commented.{IsLawfulFor, printable, rules_kept}
 
 -- the lines of a set whose addresses have prefixes are such that can be printed
 pub lines_printable : (its : Family) (head : List (List ℕ)) (form : Form) (lines : List (List ℕ))
-    (by_line : List RuleView) (set : RuleSetView) (views : List LineView) → IsRuleSet set → set.layout ≡ fields_of its → first_odd its by_line 0 set.rules ≡ None →
+    (by_line : List RuleView) (set : RuleSetView) (views : List LineView) →
+    IsRuleSet set → set.layout ≡ fields_of its → first_odd its by_line 0 set.rules ≡ None →
     views ≡ file_lines head form lines by_line set.rules → All (IsPrintableLine its) views
 lines_printable its head form lines by_line set views it layout none is =
     let lawful : All (IsLawfulFor its) set.rules =

@@ -92,12 +92,12 @@ fn rules_for(
 }
 
 /// The text of some rules, by the lines of the list and the numbers of the rules.
-fn text_of_rules<'a>(
+fn text_of_rules(
     alloc: Global,
-    request: &Request<'a>,
-    bytes: &'a [u8],
+    request: &Request,
+    bytes: &[u8],
     by_line: &RuleSet,
-    set: &'a RuleSet,
+    set: &RuleSet,
 ) -> Result<Vec<u8>, Refusal>
     requires { set.now.layout ≡ fields_of (family_of request.now.form) }
     ensures { IsTextOfRules (premises (request_of request.now) bytes.now) request.now.form bytes.now
@@ -249,8 +249,8 @@ fn headed<'a>(alloc: Global, head: &[&'a [u8]]) -> Result<Vec<ListLine<'a>>, All
         ≡ map (λ text. Comment text) (map (λ text. text.now) head.now)) }
 {
     let mut lines = Vec::new(alloc);
-    for place in 0..head.len() {
-        lines.push(ListLine::Comment(head[place]))?;
+    for text in head {
+        lines.push(ListLine::Comment(*text))?;
     }
     Ok(lines)
 }

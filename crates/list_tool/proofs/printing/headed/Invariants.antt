@@ -5,7 +5,7 @@ use Rattle.printed_lists.specs.Listed.{Comment, line_views}
 use Rattle.list_tool.proofs.printing.headed.Given as goal
 
 -- those of the texts that are left come after them
-abbrev pub invariant-loop-place : goal.invariant-loop-place
-invariant-loop-place l =
-    Writes (λ texts. map (λ text. Comment text) (map (λ text. text.now) texts)) l.head l.place
+abbrev pub invariant-loop-text : goal.invariant-loop-text
+invariant-loop-text l =
+    Writes (λ texts. map (λ text. Comment text) (map (λ text. text.now) texts)) l.head l.text-index
     (line_views l.lines.items) (map (λ text. Comment text) (map (λ text. text.now) l.head))

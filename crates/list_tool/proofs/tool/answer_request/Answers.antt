@@ -7,7 +7,8 @@ use Rattle.list_tool.proofs.tool.answer_request.Goals as goal
 pub returns-in-Ok-clause-answers : goal.returns-in-Ok-clause-answers
 returns-in-Ok-clause-answers g c =
     answers_read (request_of c.args.request.now) (g.D.Desk.view c.args.desk.now) (g.D.Desk.view c.read_file.new.desk)
-    (g.O.Sink.view c.args.out.now) (g.O.Sink.view c.answer_bytes.new.out) c.in-Ok.bytes c.answer_bytes-status.result
+    (g.O.Sink.view c.args.out.now) (g.O.Sink.view c.answer_bytes-status.new.out) c.in-Ok.bytes
+    c.answer_bytes-status.result
     c.in-Ok.ensures (λ file same. c.answer_bytes-status.ensures.prints file (same ∙ sym c.deref.ensures.value))
     c.answer_bytes-status.ensures.count
     c.answer_bytes-status.ensures.not_unread
@@ -17,25 +18,26 @@ returns-in-Ok-clause-message g c =
     let read = c.in-Ok.ensures in
     subst (λ (line : List ℕ). PutsLine line (g.E.Sink.view c.args.err.now) (g.E.Sink.view c.put_message.new.err))
     (said_read (heard_of (g.D.Desk.view c.read_file.new.desk)) (heard_of (g.D.Desk.view c.args.desk.now)) read.file
-    c.as_bytes.result.now c.deref-2.result.now c.answer_bytes-status.result read.heard
-    read.named (read.bytes ∙ sym c.deref-2.ensures.value))
+    c.as_bytes.result.now c.deref-in-Ok.result.now c.answer_bytes-status.result read.heard
+    read.named (read.bytes ∙ sym c.deref-in-Ok.ensures.value))
     c.put_message.ensures
 
 pub returns-in-Err-clause-answers : goal.returns-in-Err-clause-answers
 returns-in-Err-clause-answers g c =
-    rw c.unread.ensures
+    rw c.unread-status.ensures
     (answers_unread (request_of c.args.request.now) (g.D.Desk.view c.args.desk.now)
     (g.D.Desk.view c.read_file.new.desk) (g.O.Sink.view c.args.out.now) c.in-Err.status c.in-Err.ensures)
 
 pub returns-in-Err-clause-message : goal.returns-in-Err-clause-message
 returns-in-Err-clause-message g c =
     let read = c.in-Err.ensures in
-    rw c.unread.ensures
-    (subst (λ (line : List ℕ). PutsLine line (g.E.Sink.view c.args.err.now) (g.E.Sink.view c.put_message.new.err))
+    rw c.unread-status.ensures
+    (subst
+    (λ (line : List ℕ). PutsLine line (g.E.Sink.view c.args.err.now) (g.E.Sink.view c.put_message-in-Err.new.err))
     (said_unread (heard_of (g.D.Desk.view c.read_file.new.desk)) (heard_of (g.D.Desk.view c.args.desk.now)) read.file
-    c.as_bytes.result.now c.in-Err.status read.heard
+    c.as_bytes-in-Err.result.now c.in-Err.status read.heard
     read.named (elim read.fault [
       | inl full ↦ inl full
       | inr fault ↦ inr fault.0
     ]))
-    c.put_message.ensures)
+    c.put_message-in-Err.ensures)
