@@ -1,7 +1,8 @@
 -- Values of JSON, level by level.
 use Rattle.std.proofs.Common.{◌≡◌, ◌≢◌, ℕ, suc, Bool, ◌||◌, List, [], ◌∷◌, length, map, Some, None, get_or}
-use Rattle.std.proofs.Common.{arith, refl, ap}
-use Rattle.std.specs.List.{list_all, list_any}
+use Rattle.std.proofs.Common.{◌++◌, ◌∙◌, arith, refl, ap, sym}
+use Rattle.std.proofs.lemmas.List.Concat.{flat_map-cons}
+use Rattle.std.specs.List.{flat_map, list_all, list_any}
 use Rattle.std.proofs.lemmas.List.Folds.{list_all-map}
 use Rattle.json.specs.Json.{Json}
 use Rattle.std.specs.Borrow.{Bor}
@@ -46,3 +47,12 @@ pub any_view : {A : Type 0} (p : Json → Bool) (values : List (Value A)) →
     list_any p (map value_view values) ≡ list_any (λ value. p (value_view value)) values
 any_view p [] = refl
 any_view p (value ∷ values) = ap (λ more. p (value_view value) || more) (any_view p values)
+
+-- what is made of each view, joined, is what is made of each value
+pub flat_map_views : {A Y : Type 0} (f : Json → List Y) (values : List (Value A)) →
+    flat_map f (map value_view values) ≡ flat_map (λ value. f (value_view value)) values
+flat_map_views f [] = refl
+flat_map_views f (value ∷ values) =
+    flat_map-cons f (value_view value) (map value_view values)
+    ∙ ap (λ more. f (value_view value) ++ more) (flat_map_views f values)
+    ∙ sym (flat_map-cons (λ value. f (value_view value)) value values)

@@ -34,7 +34,7 @@ use Rattle.nft_reader.specs.Chains.{ListedChain, Names, no_chain, place_of}
 use Rattle.nft_reader.specs.Compared.{own_name}
 use Rattle.nft_reader.specs.Known.{Question, Setting, answer_of, policy_named}
 use Rattle.nft_reader.specs.Readings.{SaidRule, with_statements}
-use Rattle.nft_reader.specs.Sets.{owner_in, sets_in}
+use Rattle.nft_reader.specs.Sets.{owner_in, sets_of}
 use Rattle.nft_reader.specs.Shapes.{is_one_of, items_in, items_of, len_of, listed_values, number_in}
 use Rattle.nft_reader.specs.Shapes.{only, present}
 use Rattle.nft_reader.specs.Shapes.{said_by, text_in}
@@ -275,7 +275,7 @@ objects_read setting objects =
 -- the chains of objects that may name sets
 abbrev pub with_objects : Question → List Json → Result (List ListedChain) ObjectFault
 with_objects question objects =
-    objects_read (record { question = question; sets = sets_in objects objects }) objects
+    objects_read (record { question = question; sets = sets_of objects }) objects
 
 -- the question before any rule
 abbrev pub question : Asked → List ℕ → Question

@@ -34,30 +34,38 @@ abbrev pub is_text : List ℕ → Option (List ℕ) → Bool
 is_text name None = false
 is_text name (Some other) = bytes_eq other name
 
--- a statement changes the set of a name
-abbrev pub changes : List ℕ → Json → Bool
-changes name statement = is_text name (changed_by statement)
+-- the set that a statement of a rule of a table changes, if it does
+abbrev pub change_of : List ℕ → List ℕ → Json → List Names
+change_of family table statement =
+    option_to_list (option_map (λ name. record { family = family; table = table; name = name })
+    (changed_by statement))
 
--- one of some statements does, if there are some
-abbrev pub some_changes : List ℕ → Option (List Json) → Bool
-some_changes name None = false
-some_changes name (Some statements) = list_any (changes name) statements
+-- those that the statements of a rule do, if it has a family, a table and statements
+abbrev pub changes_said : Option (List ℕ) → Option (List ℕ) → Option (List Json) → List Names
+changes_said None table statements = []
+changes_said (Some family) None statements = []
+changes_said (Some family) (Some table) None = []
+changes_said (Some family) (Some table) (Some statements) =
+    flat_map (change_of family table) statements
 
--- a rule stands in the table of a set, and changes it, if there is one
-abbrev pub rule_changes : Names → Option Json → Bool
-rule_changes owner None = false
-rule_changes owner (Some said) =
-    is_text owner.family (text_in (codes "family") said)
-    && is_text owner.table (text_in (codes "table") said)
-    && some_changes owner.name (items_in (codes "expr") said)
+-- those that a rule does, if there is one
+abbrev pub rule_changes : Option Json → List Names
+rule_changes None = []
+rule_changes (Some said) =
+    changes_said (text_in (codes "family") said) (text_in (codes "table") said)
+    (items_in (codes "expr") said)
 
--- an object is such a rule
-abbrev pub object_changes : Names → Json → Bool
-object_changes owner value = rule_changes owner (said_by (codes "rule") value)
+-- those that an object does, if it is a rule
+abbrev pub changes_in : Json → List Names
+changes_in value = rule_changes (said_by (codes "rule") value)
 
--- packets change a set: an object of the ruleset is a rule that does
-abbrev pub is_changed : List Json → Names → Bool
-is_changed objects owner = list_any (object_changes owner) objects
+-- the sets that the rules of a ruleset change
+abbrev pub changes_of : List Json → List Names
+changes_of objects = flat_map changes_in objects
+
+-- packets change a set: a rule of its table does, which is one of those that change some
+abbrev pub is_changed : List Names → Names → Bool
+is_changed changes owner = list_any (λ change. is_same change owner) changes
 
 -- ---- what a set says
 
@@ -113,10 +121,10 @@ elements_if (Some value) = items_of value
 abbrev pub listed_elements : Json → Option (List Json)
 listed_elements said = elements_if (get (codes "elem") said)
 
--- the elements of a set among objects, or why they aren't known
-abbrev pub set_elements : List Json → Names → Json → Result (List Json) RuleKind
-set_elements objects owner said =
-    if is_timed said || is_changed objects owner then Err kind.ChangingSet
+-- the elements of a set, of which packets change some, or why they aren't known
+abbrev pub set_elements : List Names → Names → Json → Result (List Json) RuleKind
+set_elements changes owner said =
+    if is_timed said || is_changed changes owner then Err kind.ChangingSet
     else (if has_set_members said then or_cause kind.OtherSet (listed_elements said)
     else Err kind.OtherSet)
 
@@ -158,27 +166,31 @@ owner_in key said =
     (text_in (codes "family") said)
 
 -- such a set, if it has names
-abbrev pub set_said : List Json → Json → Bool → Option ListedSet
-set_said objects said has =
+abbrev pub set_said : List Names → Json → Bool → Option ListedSet
+set_said changes said has =
     option_map (λ owner. record {
       owner = owner;
       verdicts = has;
-      elements = set_elements objects owner said;
+      elements = set_elements changes owner said;
     }) (owner_in (codes "name") said)
 
 -- a set by the only member of an object, if it has one
-abbrev pub set_named : List Json → Option (List ℕ × Json) → Option ListedSet
-set_named objects None = None
-set_named objects (Some found) =
-    option_and_then (set_said objects found.1) (verdicts_in found.0 found.1)
+abbrev pub set_named : List Names → Option (List ℕ × Json) → Option ListedSet
+set_named changes None = None
+set_named changes (Some found) =
+    option_and_then (set_said changes found.1) (verdicts_in found.0 found.1)
 
 -- the set of an object that has one
-abbrev pub set_object : List Json → Json → Option ListedSet
-set_object objects value = set_named objects (only value)
+abbrev pub set_object : List Names → Json → Option ListedSet
+set_object changes value = set_named changes (only value)
 
--- the sets of some of the objects
-abbrev pub sets_in : List Json → List Json → List ListedSet
-sets_in objects values = flat_map (λ value. option_to_list (set_object objects value)) values
+-- the sets of objects, of which packets change some
+abbrev pub sets_in : List Names → List Json → List ListedSet
+sets_in changes values = flat_map (λ value. option_to_list (set_object changes value)) values
+
+-- the sets of a ruleset
+abbrev pub sets_of : List Json → List ListedSet
+sets_of objects = sets_in (changes_of objects) objects
 
 -- ---- sets by their names
 

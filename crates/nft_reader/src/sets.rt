@@ -1,7 +1,7 @@
 //! Named sets and maps of a ruleset.
 
 ghost use Rattle.std.specs.Prelude.{◌≡◌, ◌++◌, ◌≤◌, codes, map, IfOk, OnOk, option_map};
-ghost use Rattle.std.specs.List.{list_all, list_any};
+ghost use Rattle.std.specs.List.{flat_map, list_all};
 ghost use Rattle.std.specs.Option.{option_to_list};
 ghost use Rattle.json.specs.Find.{as_str, get};
 ghost use Rattle.json.specs.Value.{value_view as view};
@@ -14,6 +14,42 @@ use crate::fault::RuleKind;
 use crate::shapes::{items_in, items_of, len_of, listed_values, only, present, said_by, text_in};
 use json::Value;
 use std::alloc::{AllocError, Global};
+use std::marker::Model;
+
+/// The name of a set that a rule changes: its family, its table, and its name there. Contracts see a
+/// record of these.
+#[derive(Drop)]
+struct Change<'a> {
+    family: &'a str,
+    table: &'a str,
+    name: &'a [u8],
+}
+
+impl<'a> Model for Change<'a> {
+    ghost use Rattle.nft_reader.specs.Chains.{Names};
+
+    ghost Value = { Names };
+
+    ghost view = { λ change. record {
+      family = change.family.now;
+      table = change.table.now;
+      name = change.name.now;
+    } };
+}
+
+impl<'a> Change<'a> {
+    ghost use Rattle.std.specs.Prelude.{◌≡◌};
+    ghost use Rattle.nft_reader.specs.Chains.{is_same};
+
+    /// Whether it is that of a set.
+    fn is_of(&self, owner: &Owner<'_>) -> bool
+        ensures { result ≡ is_same self.now owner.now }
+    {
+        self.family == owner.family
+            && self.table == owner.table
+            && self.name == owner.name.as_bytes()
+    }
+}
 
 /// A set or a map: its name, whether its elements have verdicts, and these elements, or why they
 /// aren't known.
@@ -47,16 +83,6 @@ pub(crate) fn at_name(text: &[u8]) -> Option<&[u8]>
     text.strip_prefix(b"@")
 }
 
-/// Whether a statement adds elements to the set of a name, or takes some from it.
-fn changes(name: &str, statement: &Value<'_>) -> bool
-    ensures { result ≡ sets.changes name.now (view statement.now) }
-{
-    match changed_by(statement) {
-        Some(other) => other == name.as_bytes(),
-        None => false,
-    }
-}
-
 /// The set that a statement changes.
 fn changed_by<'a>(statement: &Value<'a>) -> Option<&'a [u8]>
     ensures { option_map text_seen result ≡ sets.changed_by (view statement.now) }
@@ -65,7 +91,7 @@ fn changed_by<'a>(statement: &Value<'a>) -> Option<&'a [u8]>
 }
 
 /// Whether a member is this text.
-fn is_text_in(key: &str, text: &str, said: &Value<'_>) -> bool
+pub(crate) fn is_text_in(key: &str, text: &str, said: &Value<'_>) -> bool
     ensures { result ≡ sets.is_text text.now (text_in key.now (view said.now)) }
 {
     match text_in(key, said) {
@@ -74,51 +100,101 @@ fn is_text_in(key: &str, text: &str, said: &Value<'_>) -> bool
     }
 }
 
-/// Whether one of some statements changes the set of a name.
-fn one_changes(name: &str, statements: &[Value<'_>]) -> bool
-    ensures { result
-        ≡ list_any (λ statement. sets.changes name.now (view statement)) statements.now }
+/// Puts the set that a statement of a rule of a table changes after others, if it does.
+fn put_change<'a>(
+    changes: &mut Vec<Change<'a>>,
+    family: &'a str,
+    table: &'a str,
+    statement: &Value<'a>,
+) -> Result<(), AllocError>
+    ensures { OnOk result (changes.new.items ≡ changes.old.items
+        ++ sets.change_of family.now table.now (view statement.now)) }
 {
-    statements.iter().any(|statement| changes(name, statement))
-}
-
-/// Whether a statement of a rule does.
-fn some_changes(name: &str, said: &Value<'_>) -> bool
-    ensures { result ≡ sets.some_changes name.now (shapes.items_in (codes "expr") (view said.now)) }
-{
-    match items_in("expr", said) {
-        Some(statements) => one_changes(name, statements),
-        None => false,
+    if let Some(name) = changed_by(statement) {
+        changes.push(Change {
+            family,
+            table,
+            name,
+        })?;
     }
+    Ok(())
 }
 
-/// Whether an object is a rule that stands in the table of a set, and changes it.
-fn object_changes(owner: &Owner<'_>, object: &Value<'_>) -> bool
-    ensures { result ≡ sets.object_changes owner.now (view object.now) }
+/// Puts those that each of some statements changes.
+fn put_each_change<'a>(
+    changes: &mut Vec<Change<'a>>,
+    family: &'a str,
+    table: &'a str,
+    statements: &[Value<'a>],
+) -> Result<(), AllocError>
+    ensures { OnOk result (changes.new.items ≡ changes.old.items ++ flat_map
+        (λ statement. sets.change_of family.now table.now (view statement)) statements.now) }
 {
-    match said_by("rule", object) {
-        Some(said) => {
-            is_text_in("family", owner.family, said)
-                && is_text_in("table", owner.table, said)
-                && some_changes(owner.name, said)
-        }
-        None => false,
+    for statement in statements {
+        put_change(changes, family, table, statement)?;
     }
+    Ok(())
 }
 
-/// Whether one of some objects does.
-fn one_object_changes(objects: &[Value<'_>], owner: &Owner<'_>) -> bool
-    ensures { result
-        ≡ list_any (λ object. sets.object_changes owner.now (view object)) objects.now }
+/// Puts those that some statements change.
+fn put_changes<'a>(
+    changes: &mut Vec<Change<'a>>,
+    family: &'a str,
+    table: &'a str,
+    statements: &[Value<'a>],
+) -> Result<(), AllocError>
+    ensures { OnOk result (changes.new.items ≡ changes.old.items
+        ++ flat_map (sets.change_of family.now table.now) (map view statements.now)) }
 {
-    objects.iter().any(|object| object_changes(owner, object))
+    put_each_change(changes, family, table, statements)?;
+    Ok(())
+}
+
+/// Puts those that an object changes, if it is a rule.
+fn put_rule_changes<'a>(changes: &mut Vec<Change<'a>>, object: &Value<'a>) -> Result<(), AllocError>
+    ensures { OnOk result (changes.new.items
+        ≡ changes.old.items ++ sets.changes_in (view object.now)) }
+{
+    let Some(said) = said_by("rule", object) else {
+        return Ok(());
+    };
+    let Some(family) = text_in("family", said) else {
+        return Ok(());
+    };
+    let Some(table) = text_in("table", said) else {
+        return Ok(());
+    };
+    let Some(statements) = items_in("expr", said) else {
+        return Ok(());
+    };
+    put_changes(changes, family, table, statements)
+}
+
+/// The sets that objects change.
+fn object_changes<'a>(alloc: Global, objects: &[Value<'a>]) -> Result<Vec<Change<'a>>, AllocError>
+    ensures { IfOk result (λ changes. changes.items
+        ≡ flat_map (λ object. sets.changes_in (view object)) objects.now) }
+{
+    let mut changes = Vec::new(alloc);
+    for object in objects {
+        put_rule_changes(&mut changes, object)?;
+    }
+    Ok(changes)
+}
+
+/// The sets that the rules of a ruleset change.
+fn changes_of<'a>(alloc: Global, objects: &[Value<'a>]) -> Result<Vec<Change<'a>>, AllocError>
+    ensures { IfOk result (λ changes. changes.items ≡ sets.changes_of (map view objects.now)) }
+{
+    let changes = object_changes(alloc, objects)?;
+    Ok(changes)
 }
 
 /// Whether packets change a set.
-fn is_changed(objects: &[Value<'_>], owner: &Owner<'_>) -> bool
-    ensures { result ≡ sets.is_changed (map view objects.now) owner.now }
+fn is_changed(changes: &[Change<'_>], owner: &Owner<'_>) -> bool
+    ensures { result ≡ sets.is_changed changes.now owner.now }
 {
-    one_object_changes(objects, owner)
+    changes.iter().any(|change| change.is_of(owner))
 }
 
 /// Whether a flag is one by which the elements of a set stay.
@@ -216,16 +292,16 @@ fn listed_elements<'v, 'a>(said: &'v Value<'a>) -> Option<&'v [Value<'a>]>
     }
 }
 
-/// The elements of a set among objects, or why they aren't known.
+/// The elements of a set, of which packets change some, or why they aren't known.
 fn set_elements<'v, 'a>(
-    objects: &[Value<'_>],
+    changes: &[Change<'_>],
     owner: &Owner<'_>,
     said: &'v Value<'a>,
 ) -> Result<&'v [Value<'a>], RuleKind>
     ensures { elements_seen result
-        ≡ sets.set_elements (map view objects.now) owner.now (view said.now) }
+        ≡ sets.set_elements changes.now owner.now (view said.now) }
 {
-    if is_timed(said) || is_changed(objects, owner) {
+    if is_timed(said) || is_changed(changes, owner) {
         return Err(RuleKind::ChangingSet);
     }
     if !has_set_members(said) {
@@ -260,14 +336,13 @@ pub(crate) fn owner_in<'a>(key: &str, said: &Value<'a>) -> Option<Owner<'a>>
 }
 
 /// The set of an object that has one.
-fn set_object<'v, 'a>(objects: &[Value<'_>], object: &'v Value<'a>) -> Option<NamedSet<'v, 'a>>
-    ensures { option_map sets.set_of result
-        ≡ sets.set_object (map view objects.now) (view object.now) }
+fn set_object<'v, 'a>(changes: &[Change<'_>], object: &'v Value<'a>) -> Option<NamedSet<'v, 'a>>
+    ensures { option_map sets.set_of result ≡ sets.set_object changes.now (view object.now) }
 {
     let (name, said) = only(object)?;
     let verdicts = verdicts_in(name, said)?;
     let owner = owner_in("name", said)?;
-    let elements = set_elements(objects, &owner, said);
+    let elements = set_elements(changes, &owner, said);
     Some(NamedSet {
         owner,
         verdicts,
@@ -278,29 +353,43 @@ fn set_object<'v, 'a>(objects: &[Value<'_>], object: &'v Value<'a>) -> Option<Na
 /// Puts the set of an object that has one after others.
 fn put_set<'v, 'a>(
     found: &mut Vec<NamedSet<'v, 'a>>,
-    objects: &[Value<'_>],
+    changes: &[Change<'_>],
     object: &'v Value<'a>,
 ) -> Result<(), AllocError>
     ensures { OnOk result (map sets.set_of found.new.items ≡ map sets.set_of found.old.items
-        ++ option_to_list (sets.set_object (map view objects.now) (view object.now))) }
+        ++ option_to_list (sets.set_object changes.now (view object.now))) }
 {
-    if let Some(set) = set_object(objects, object) {
+    if let Some(set) = set_object(changes, object) {
         found.push(set)?;
     }
     Ok(())
 }
 
-/// The sets and maps of a ruleset. It takes memory in proportion to their number.
+/// The sets and maps of objects, of which packets change some.
+fn sets_in<'v, 'a>(
+    alloc: Global,
+    changes: &[Change<'_>],
+    objects: &'v [Value<'a>],
+) -> Result<Vec<NamedSet<'v, 'a>>, AllocError>
+    ensures { IfOk result (λ found. map sets.set_of found.items
+        ≡ sets.sets_in changes.now (map view objects.now)) }
+{
+    let mut found = Vec::new(alloc);
+    for object in objects {
+        put_set(&mut found, changes, object)?;
+    }
+    Ok(found)
+}
+
+/// The sets and maps of a ruleset. It takes memory in proportion to their number, and to that of the
+/// statements that change some.
 pub(crate) fn sets_of<'v, 'a>(
     alloc: Global,
     objects: &'v [Value<'a>],
 ) -> Result<Vec<NamedSet<'v, 'a>>, AllocError>
     ensures { IfOk result (λ found. map sets.set_of found.items
-        ≡ sets.sets_in (map view objects.now) (map view objects.now)) }
+        ≡ sets.sets_of (map view objects.now)) }
 {
-    let mut found = Vec::new(alloc);
-    for object in objects {
-        put_set(&mut found, objects, object)?;
-    }
-    Ok(found)
+    let changes = changes_of(alloc, objects)?;
+    sets_in(alloc, &changes, objects)
 }
