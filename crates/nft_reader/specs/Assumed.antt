@@ -1,6 +1,6 @@
 -- Comparisons with what is known of packets beside their bytes, or assumed (nft(8), "META
 -- EXPRESSIONS" and "CONNTRACK EXPRESSIONS"): each is true of all packets or of none.
-use Rattle.std.specs.Prelude.{ℕ, ◌==◌, Bool, false, not, ◌&&◌, is_some, if◌then◌else◌, codes}
+use Rattle.std.specs.Prelude.{ℕ, ◌==◌, Bool, true, false, not, ◌&&◌, is_some, if◌then◌else◌, codes}
 use Rattle.std.specs.Prelude.{List, Option, Some, None, option_and_then, Result, Ok, Err}
 use Rattle.std.specs.List.{list_all, list_any}
 use Rattle.std.specs.Option.{option_map}
@@ -20,7 +20,9 @@ use Rattle.nft_reader.specs.declared.compared.Operator.{Operator}
 use Rattle.nft_reader.specs.declared.compared.Operator.TheVariants as operator
 use Rattle.nft_reader.specs.declared.compared.Way.{Way}
 use Rattle.nft_reader.specs.declared.compared.Way.TheVariants as way
+use Rattle.nft_reader.specs.declared.hooks.Base.{Base}
 use Rattle.nft_reader.specs.Compared.{is_ip4, is_of}
+use Rattle.nft_reader.specs.Hooks.{knows_state, knows_way}
 use Rattle.nft_reader.specs.Known.{Question}
 use Rattle.nft_reader.specs.Sets.{at_name}
 use Rattle.nft_reader.specs.Shapes.{listed_values}
@@ -114,11 +116,23 @@ state_met assumed values =
 
 -- ---- all of them
 
--- a comparison with the right side is true, or a cause where that isn't known
+-- a comparison with the right side is true, or a cause where that isn't known: of an interface that
+-- packets don't have at the hook the kernel's versions say different things, and a state that isn't
+-- known yet is one of another connection
 abbrev pub is_met : Question → Fact → Operator → Json → Result Bool RuleKind
 is_met question fact.Nfproto compares right =
     or_cant (option_map (is_of question.asked.family) (option_and_then is_ip4 (as_str right)))
 is_met question (fact.Interface which manner) compares right =
-    or_cant (elements_of right) >>= interface_met question.assumed which manner
+    if knows_way question.begin which
+    then (or_cant (elements_of right) >>= interface_met question.assumed which manner)
+    else Err kind.HookInterface
 is_met question fact.State compares right =
-    or_cant (state_values compares right) >>= state_met question.assumed
+    if knows_state question.begin
+    then (or_cant (state_values compares right) >>= state_met question.assumed)
+    else Err kind.HookState
+
+-- what is compared is known of packets of the chain that is asked for
+abbrev pub is_known : Option Base → Fact → Bool
+is_known begin fact.Nfproto = true
+is_known begin (fact.Interface which manner) = knows_way begin which
+is_known begin fact.State = knows_state begin

@@ -1,14 +1,13 @@
 -- The chains of a ruleset: each stands in a table of a family, and those that packets come to by
 -- themselves have a policy (nft(8), "CHAINS").
-use Rattle.std.specs.Prelude.{ℕ, ◌+◌, Bool, ◌&&◌, not, is_some, if◌then◌else◌, List, [], drop}
-use Rattle.std.specs.Prelude.{Option, Some, None, Result, Ok, Err}
+use Rattle.std.specs.Prelude.{ℕ, Bool, ◌&&◌, not, is_some, List, [], Option, None}
 use Rattle.std.specs.List.{position_from}
 use Rattle.std.specs.Str.{bytes_eq}
 use Rattle.list_chains.specs.declared.span.Span.{Span}
 use Rattle.list_chains.specs.Chains.{ListRule}
+use Rattle.nft_reader.specs.declared.chain.Lead.{Lead}
 use Rattle.nft_reader.specs.declared.fault.RuleFault.{RuleFault}
-use Rattle.nft_reader.specs.declared.fault.StartFault.{StartFault}
-use Rattle.nft_reader.specs.declared.fault.StartFault.TheVariants.{NoStart, ManyStarts}
+use Rattle.nft_reader.specs.declared.hooks.Base.{Base}
 
 -- the name of a chain: its family, its table, and its name there
 pub record Names : Type 0 where
@@ -16,13 +15,18 @@ pub record Names : Type 0 where
   pub table : List ℕ
   pub name : List ℕ
 
--- a chain: its name, the answer of its policy if it has one, its rules, and those of them that no
--- rule file says
+-- a chain: its name, its handle, what it is and the answer of its policy if it is a base chain, its
+-- rules, and those of them that no rule file says; beside these a rule that may drop packets of
+-- other base chains, if it has one, and its rules that lead to chains
 pub record ListedChain : Type 0 where
   pub owner : Names
+  pub handle : ℕ
+  pub base : Option Base
   pub policy : Option ℕ
   pub rules : List (ListRule (List Span))
   pub faults : List RuleFault
+  pub stops : Option ℕ
+  pub leads : List Lead
 
 -- the names are the same
 abbrev pub is_same : Names → Names → Bool
@@ -42,27 +46,11 @@ place_of led owner chains = position_from (is_meant led owner) 0 chains
 abbrev pub no_chain : ListedChain
 no_chain = record {
   owner = record { family = []; table = []; name = [] };
+  handle = 0;
+  base = None;
   policy = None;
   rules = [];
   faults = [];
+  stops = None;
+  leads = [];
 }
-
--- ---- the chain that packets come to
-
--- the chain has the name, and packets come to it by themselves
-abbrev pub is_start : List ℕ → ListedChain → Bool
-is_start name chain = bytes_eq chain.owner.name name && is_some chain.policy
-
--- the first such chain from a place on
-abbrev pub start_from : List ℕ → ℕ → List ListedChain → Option ℕ
-start_from name from chains = position_from (is_start name) from (drop from chains)
-
--- it is the only one, whatever its table
-abbrev pub only_start : List ℕ → List ListedChain → Option ℕ → Result ℕ StartFault
-only_start name chains None = Err NoStart
-only_start name chains (Some place) =
-    if is_some (start_from name (place + 1) chains) then Err ManyStarts else Ok place
-
--- the place of the one chain of a name that packets come to by themselves
-abbrev pub start_of : List ℕ → List ListedChain → Result ℕ StartFault
-start_of name chains = only_start name chains (start_from name 0 chains)

@@ -144,6 +144,13 @@ operator_named name =
     else (if bytes_eq name (codes "in") then Some operator.In
     else (if bytes_eq name (codes "!") then Some operator.NotIn else None)))
 
+-- it is that of inequality
+abbrev pub is_unequal : Operator → Bool
+is_unequal operator.Unequal = true
+is_unequal operator.Equal = false
+is_unequal operator.In = false
+is_unequal operator.NotIn = false
+
 -- whether a comparison for equality is turned
 abbrev pub is_negated : Operator → Option Bool
 is_negated operator.Equal = Some false

@@ -9,6 +9,7 @@ use Rattle.list_chains.specs.declared.chain.Target.{Target}
 use Rattle.list_chains.specs.declared.chain.Target.TheVariants as target
 use Rattle.nft_reader.specs.declared.fault.RuleKind.{RuleKind}
 use Rattle.nft_reader.specs.declared.fault.RuleKind.TheVariants as kind
+use Rattle.nft_reader.specs.declared.hooks.Base.{Base}
 use Rattle.nft_reader.specs.declared.known.Answers.{Answers}
 use Rattle.nft_reader.specs.declared.known.Answers.TheVariants as answers
 use Rattle.nft_reader.specs.declared.known.Asked.{Asked}
@@ -21,11 +22,12 @@ use Rattle.nft_reader.specs.Shapes.{len_of, text_in}
 use Rattle.nft_reader.specs.Stops.{◌>>=◌, or_cant, or_cause}
 use Rattle.nft_reader.specs.Values.{elements_of}
 
--- what is asked, what is assumed of packets, and whether all that a rule catches so far are of
--- protocols whose ports keys have
+-- what is asked, what is assumed of packets, the base chain that they come to, if there is one, and
+-- whether all that a rule catches so far are of protocols whose ports keys have
 pub record Question : Type 0 where
   pub asked : Asked
   pub assumed : List ℕ
+  pub begin : Option Base
   pub ported : Bool
 
 -- the question, and the sets of the ruleset
@@ -53,13 +55,19 @@ abbrev pub question_of : given.Known → Question
 question_of known = record {
   asked = known.asked;
   assumed = known.assumed.now;
+  begin = known.begin;
   ported = known.ported;
 }
 
 -- what is known where objects are read
 abbrev pub setting_of : laid.Setting → Setting
 setting_of setting = record {
-  question = record { asked = setting.asked; assumed = setting.assumed.now; ported = false };
+  question = record {
+    asked = setting.asked;
+    assumed = setting.assumed.now;
+    begin = setting.begin;
+    ported = false;
+  };
   sets = map set_of setting.sets.now;
 }
 
@@ -117,6 +125,12 @@ abbrev pub led_place : Known → Json → Result ℕ RuleKind
 led_place known said =
     or_cause kind.BadStatement (target_of said) >>= λ name.
     or_cause kind.NoTarget (place_of true (record known.owner { name = name }) known.chains)
+
+-- the same, or none
+abbrev pub led_to : Known → Json → Option ℕ
+led_to known said =
+    option_and_then (λ name. place_of true (record known.owner { name = name }) known.chains)
+    (target_of said)
 
 -- what becomes of packets by a statement: by `continue` they go on to the next rule
 abbrev pub outcome_of : Known → List ℕ → Json → Result (Option Outcome) RuleKind

@@ -2,6 +2,8 @@ pub mod Shapes
 pub mod Values
 pub mod Stops
 pub mod Compared
+pub mod Hooks
+pub mod HooksExamples
 pub mod Chains
 pub mod Sets
 pub mod Assumed
@@ -11,7 +13,11 @@ pub mod Known
 pub mod Keys
 pub mod Maps
 pub mod Readings
+pub mod Effects
 pub mod Ruleset
+pub mod Starts
+pub mod StartsExamples
+pub mod ShownChains
 pub mod RulesetExamples
 pub mod SetsExamples
 pub mod MapsExamples

@@ -19,6 +19,7 @@ use Rattle.nft_reader.specs.declared.fault.RuleKind.{RuleKind}
 use Rattle.nft_reader.specs.declared.fault.RuleKind.TheVariants as kind
 use Rattle.nft_reader.specs.declared.known.Branch.{Branch}
 use Rattle.nft_reader.specs.declared.known.Outcome.{Outcome}
+use Rattle.nft_reader.specs.Assumed.{is_known}
 use Rattle.nft_reader.specs.Compared.{left_of}
 use Rattle.nft_reader.specs.Comparisons.{ComparedBoxes, caught_by}
 use Rattle.nft_reader.specs.Known.{Known, Question, known_elements, outcome_of}
@@ -85,7 +86,8 @@ having question (left.Header which held) =
     if is_told question (all_packets question.asked.family ∷ []) held
     then Some (held_packets question.asked.family held) else None
 having question left.OtherFamily = None
-having question (left.Fact which) = Some (all_packets question.asked.family)
+having question (left.Fact which) =
+    if is_known question.begin which then Some (all_packets question.asked.family) else None
 
 -- those that have one thing; of several it isn't said
 abbrev pub rest_box : Question → Json → Option Packets

@@ -14,10 +14,11 @@ use Rattle.nft_reader.specs.declared.known.Answers.TheVariants as answers
 use Rattle.nft_reader.specs.declared.fault.ObjectFault.{ObjectFault}
 use Rattle.nft_reader.specs.declared.fault.RuleFault.{RuleFault}
 use Rattle.nft_reader.specs.declared.fault.RuleKind.TheVariants as kind
-use Rattle.nft_reader.specs.Chains.{ListedChain, Names}
+use Rattle.nft_reader.specs.Chains.{Names}
 use Rattle.nft_reader.specs.Keys.{parts_boxes}
 use Rattle.nft_reader.specs.Known.{nowhere}
 use Rattle.nft_reader.specs.Ruleset.{chains_of_document}
+use Rattle.nft_reader.specs.ShownChains.{ShownChain, shown}
 use Rattle.nft_reader.specs.Stops.{folded}
 
 -- the numbers from one to another
@@ -48,17 +49,18 @@ named name = record { family = codes "ip"; table = codes "f"; name = name }
 
 -- the chains web, and in with some rules
 abbrev with_rules : List (ListRule (List Span)) → List RuleFault →
-    Result (List ListedChain) ObjectFault
+    Result (List ShownChain) ObjectFault
 with_rules rules faults =
     Ok (record { owner = named (codes "web"); policy = None; rules = []; faults = [] }
     ∷ record { owner = named (codes "in"); policy = None; rules = rules; faults = faults } ∷ [])
 
 -- a ruleset of an object, two chains, and a rule of these statements, under what is assumed
-abbrev said_under : List ℕ → List ℕ → List ℕ → Result (List ListedChain) ObjectFault
+abbrev said_under : List ℕ → List ℕ → List ℕ → Result (List ShownChain) ObjectFault
 said_under assumed objects statements =
-    chains_of_document (record {
+    shown (chains_of_document [] (record {
       asked = record { family = family.Ip4; answers = answers.Handle };
       assumed = assumed;
+      begin = None;
       ported = false;
     })
     (document (codes "{\"nftables\": [" ++ objects
@@ -66,10 +68,10 @@ said_under assumed objects statements =
     ++ codes "\"handle\": 1}}, {\"chain\": {\"family\": \"ip\", \"table\": \"f\", \"name\": "
     ++ codes "\"in\", \"handle\": 2}}, {\"rule\": {\"family\": \"ip\", \"table\": \"f\", "
     ++ codes "\"chain\": \"in\", \"handle\": 7, \"expr\": [" ++ statements
-    ++ codes "]}}]}"))
+    ++ codes "]}}]}")))
 
 -- the same if nothing is assumed
-abbrev said : List ℕ → List ℕ → Result (List ListedChain) ObjectFault
+abbrev said : List ℕ → List ℕ → Result (List ShownChain) ObjectFault
 said objects statements = said_under [] objects statements
 
 -- a map of ports of TCP

@@ -1,12 +1,13 @@
 -- A rule, statement by statement (libnftables-json(5), "STATEMENTS"). Its comparisons say which
 -- packets it catches, and its last statement what becomes of them. A statement that isn't known
 -- here isn't passed over: the rule then isn't said.
-use Rattle.std.specs.Prelude.{ℕ, ◌==◌, Bool, true, false, if◌then◌else◌, codes}
-use Rattle.std.specs.Prelude.{List, [], ◌∷◌, ◌++◌, Option, Some, None}
+use Rattle.std.specs.Prelude.{ℕ, ◌==◌, Bool, true, false, ◌&&◌, not, is_some, if◌then◌else◌, codes}
+use Rattle.std.specs.Prelude.{List, [], ◌∷◌, ◌++◌, Option, Some, None, option_and_then}
 use Rattle.std.specs.Prelude.{Result, Ok, Err}
 use Rattle.std.specs.List.{list_any}
 use Rattle.std.specs.Str.{bytes_eq}
 use Rattle.json.specs.Json.{Json}
+use Rattle.json.specs.Find.{as_str}
 use Rattle.field_defs.specs.declared.field.Family.{Family}
 use Rattle.list_packets.specs.declared.packets.Packets.{Packets}
 use Rattle.list_packets.specs.Packets.{CaughtBoxes, all_caught}
@@ -14,12 +15,13 @@ use Rattle.nft_reader.specs.declared.fault.RuleKind.{RuleKind}
 use Rattle.nft_reader.specs.declared.fault.RuleKind.TheVariants as kind
 use Rattle.nft_reader.specs.declared.known.Branch.{Branch}
 use Rattle.nft_reader.specs.declared.known.Outcome.{Outcome}
-use Rattle.nft_reader.specs.Compared.{is_of, protocol_in}
+use Rattle.nft_reader.specs.Compared.{MatchSides, is_of, is_unequal, protocol_in, sides_of}
 use Rattle.nft_reader.specs.Comparisons.{ComparedBoxes, caught_by, leaves_ported, names_other}
 use Rattle.nft_reader.specs.Keys.{compared, protocol_packets}
 use Rattle.nft_reader.specs.Known.{Known, decision, leading, nowhere, outcome_of}
 use Rattle.nft_reader.specs.Maps.{looked_up}
-use Rattle.nft_reader.specs.Shapes.{len_of, only, text_in}
+use Rattle.nft_reader.specs.Sets.{at_name, is_text}
+use Rattle.nft_reader.specs.Shapes.{len_of, only, said_by, text_in}
 use Rattle.nft_reader.specs.Stops.{◌>>=◌, folded, or_cause}
 use Rattle.nft_reader.specs.Values.{first_of}
 
@@ -134,6 +136,36 @@ with_map known said reading =
     looked_up (told known reading) said reading.compared >>= λ looked.
     Ok (record reading { branches = looked.branches; decides = true })
 
+-- ---- inequalities that nft joins
+
+-- a value is no list of several, no range and no set: nft lists a set of one element so too
+abbrev pub is_single : Json → Bool
+is_single value =
+    not (is_some (only value)) && not (is_some (option_and_then at_name (as_str value)))
+
+-- what is compared is the port of a name
+abbrev pub is_port : List ℕ → Json → Bool
+is_port name left =
+    is_text name (option_and_then (text_in (codes "field")) (said_by (codes "payload") left))
+
+-- both sides say that the port isn't one number, if there are
+abbrev pub is_other_port : List ℕ → Option MatchSides → Bool
+is_other_port name None = false
+is_other_port name (Some sides) =
+    is_unequal sides.operator && is_port name sides.left && is_single sides.right
+
+-- a statement does
+abbrev pub has_other_port : List ℕ → Json → Bool
+has_other_port name statement =
+    is_other_port name (option_and_then sides_of (said_by (codes "match") statement))
+
+-- A rule says it of both ports. nft 1.0.6 makes one comparison of both, which is true where one of
+-- them is another; the list shows two, and doesn't show which it is.
+abbrev pub has_port_pair : List Json → Bool
+has_port_pair statements =
+    list_any (has_other_port (codes "sport")) statements
+    && list_any (has_other_port (codes "dport")) statements
+
 -- ---- statements
 
 -- a verdict, unless packets go on
@@ -194,7 +226,9 @@ abbrev pub said_rule : Known → Result ReadRule RuleKind → SaidRule
 said_rule known (Ok reading) = said_if known reading reading.cause
 said_rule known (Err why) = unsaid known why (all_caught known.question.asked.family)
 
--- the statements of a rule
+-- the statements of a rule, of which no two are written as one
 abbrev pub with_statements : Known → List Json → SaidRule
 with_statements known statements =
-    said_rule known (folded (with_statement known) no_reading statements)
+    said_rule known
+    (if has_port_pair statements then Err kind.PortPair
+    else folded (with_statement known) no_reading statements)

@@ -3,7 +3,7 @@
 -- of ip or ip6. A rule that no rule file says leads to no chain, so that a chain whose packets
 -- come to it isn't turned into rules.
 use Rattle.std.specs.Prelude.{ℕ, ◌+◌, ◌-◌, ◌^◌, ◌==◌, Bool, true, false, ◌&&◌, ◌||◌, not, nat_lt, is_some}
-use Rattle.std.specs.Prelude.{if◌then◌else◌, codes, map, slice_set, slice_index_or, length}
+use Rattle.std.specs.Prelude.{if◌then◌else◌, codes, map, slice_set, slice_index_or, length, fold}
 use Rattle.std.specs.Prelude.{List, [], ◌∷◌, ◌++◌, Option, Some, None, option_and_then}
 use Rattle.std.specs.Prelude.{Result, Ok, Err}
 use Rattle.std.specs.List.{flat_map, list_all}
@@ -25,6 +25,7 @@ use Rattle.nft_reader.specs.declared.fault.NftFault.{NftFault}
 use Rattle.nft_reader.specs.declared.fault.NftFault.TheVariants as told
 use Rattle.nft_reader.specs.declared.fault.Stop.{Stop}
 use Rattle.nft_reader.specs.declared.fault.Stop.TheVariants as stop
+use Rattle.nft_reader.specs.declared.hooks.Base.{Base}
 use Rattle.nft_reader.specs.declared.known.Answers.{Answers}
 use Rattle.nft_reader.specs.declared.known.Asked.{Asked}
 use Rattle.nft_reader.specs.declared.known.Branch.{Branch}
@@ -32,13 +33,16 @@ use Rattle.nft_reader.specs.declared.ruleset.RuleParts as found
 use Rattle.nft_reader.specs.declared.ruleset.TheConstants.{MAX_RULESET}
 use Rattle.nft_reader.specs.Chains.{ListedChain, Names, no_chain, place_of}
 use Rattle.nft_reader.specs.Compared.{own_name}
-use Rattle.nft_reader.specs.Known.{Question, Setting, answer_of, policy_named}
+use Rattle.nft_reader.specs.Effects.{Effects, effects_of}
+use Rattle.nft_reader.specs.Hooks.{base_of}
+use Rattle.nft_reader.specs.Known.{Known, Question, Setting, answer_of, policy_named}
 use Rattle.nft_reader.specs.Readings.{SaidRule, with_statements}
-use Rattle.nft_reader.specs.Sets.{owner_in, sets_of}
+use Rattle.nft_reader.specs.Sets.{is_text, owner_in, sets_of}
 use Rattle.nft_reader.specs.Shapes.{is_one_of, items_in, items_of, len_of, listed_values, number_in}
 use Rattle.nft_reader.specs.Shapes.{only, present}
 use Rattle.nft_reader.specs.Shapes.{said_by, text_in}
 use Rattle.nft_reader.specs.Stops.{◌>>=◌, folded, or_cause}
+use Rattle.nft_reader.specs.Values.{first_of}
 
 -- how many bytes a ruleset may have
 abbrev pub max_ruleset : ℕ
@@ -104,18 +108,30 @@ rule_parts said =
     (owner_in (codes "chain") said)
     else None
 
+-- a chain with what a rule more may do to packets of other base chains
+abbrev pub with_effects : ℕ → Effects → ListedChain → ListedChain
+with_effects handle effects chain = record chain {
+  stops = first_of chain.stops (if effects.stops then Some handle else None);
+  leads = chain.leads ++ effects.leads;
+}
+
+-- a chain with a rule of these statements
+abbrev pub with_rule_said : Known → List Json → ListedChain → ListedChain
+with_rule_said known statements chain =
+    with_effects known.handle (effects_of known statements)
+    (with_said known.question.asked.family known.handle (with_statements known statements) chain)
+
 -- the chains with a rule of one of them
 abbrev pub with_rule_at : Setting → RuleParts → List ListedChain → ℕ → List ListedChain
 with_rule_at setting parts chains place =
     slice_set chains place
-    (with_said setting.question.asked.family parts.handle
-    (with_statements (record {
+    (with_rule_said (record {
       question = setting.question;
       sets = setting.sets;
       chains = chains;
       owner = parts.owner;
       handle = parts.handle;
-    }) parts.statements)
+    }) parts.statements
     (slice_index_or chains place no_chain))
 
 -- the chains with a rule, whose chain stands before it
@@ -150,20 +166,44 @@ policy_of asked handle said =
     else (if len_of said == 8 + present (codes "comment") said + present (codes "dev") said
     then base_policy asked handle said else Err object.BadChain)
 
+-- what a base chain of a table of the family is, which has a policy; others are nothing
+abbrev pub base_in : List ℕ → Option ℕ → Json → Result (Option Base) ObjectKind
+base_in family None said = Ok None
+base_in family (Some policy) said =
+    or_cause object.BadHook (base_of family said) >>= λ base. Ok (Some base)
+
+-- a chain without rules
+abbrev pub new_chain : Names → ℕ → Option Base → Option ℕ → ListedChain
+new_chain owner handle base policy = record {
+  owner = owner;
+  handle = handle;
+  base = base;
+  policy = policy;
+  rules = [];
+  faults = [];
+  stops = None;
+  leads = [];
+}
+
 -- the chains with one more, which didn't stand before and has no rules
 abbrev pub with_chain : Setting → List ListedChain → Json → Result (List ListedChain) ObjectKind
 with_chain setting chains said =
     or_cause object.BadChain (owner_in (codes "name") said) >>= λ owner.
     or_cause object.BadChain (handle_in said) >>= λ handle.
     policy_of setting.question.asked.answers handle said >>= λ policy.
+    base_in owner.family policy said >>= λ base.
     if is_some (place_of false owner chains) then Err object.ChainTwice
-    else Ok (chains ++ record { owner = owner; policy = policy; rules = []; faults = [] } ∷ [])
+    else Ok (chains ++ new_chain owner handle base policy ∷ [])
 
 -- ---- objects
 
--- packets of a family come to tables of one of a name
+-- packets of a family come to the network's tables of one of a name
+abbrev pub is_network_of : Family → List ℕ → Bool
+is_network_of family name = bytes_eq name (codes "inet") || bytes_eq name (own_name family)
+
+-- packets of a family come to tables of one of a name; to those of netdev whatever they are
 abbrev pub is_read : Family → List ℕ → Bool
-is_read family name = bytes_eq name (codes "inet") || bytes_eq name (own_name family)
+is_read family name = is_network_of family name || bytes_eq name (codes "netdev")
 
 -- a family of tables (nft(8), "ADDRESS FAMILIES")
 abbrev pub is_family : List ℕ → Bool
@@ -272,14 +312,48 @@ abbrev pub objects_read : Setting → List Json → Result (List ListedChain) Ob
 objects_read setting objects =
     folded (with_next setting) none_read objects >>= λ read. Ok read.chains
 
--- the chains of objects that may name sets
-abbrev pub with_objects : Question → List Json → Result (List ListedChain) ObjectFault
-with_objects question objects =
-    objects_read (record { question = question; sets = sets_of objects }) objects
+-- ---- the base chain that is asked for
 
--- the question before any rule
+-- what a chain of the network is, if it is a base chain of the name
+abbrev pub begin_said : Family → List ℕ → Json → Option Base
+begin_said family name said =
+    option_and_then (λ of. if is_network_of family of && is_text name (text_in (codes "name") said)
+    then base_of of said else None)
+    (text_in (codes "family") said)
+
+-- the same of an object
+abbrev pub begin_in : Family → List ℕ → Json → Option Base
+begin_in family name value =
+    option_and_then (begin_said family name) (said_by (codes "chain") value)
+
+-- the first such base chain so far
+abbrev pub with_begin : Family → List ℕ → Option Base → Json → Option Base
+with_begin family name begin value = first_of begin (begin_in family name value)
+
+-- that of objects
+abbrev pub begin_of : Family → List ℕ → List Json → Option Base
+begin_of family name objects = fold (with_begin family name) None objects
+
+-- ---- files
+
+-- the question of the base chain of a name among objects, before any rule
+abbrev pub begun : List ℕ → Question → List Json → Question
+begun name question objects = record question {
+  begin = begin_of question.asked.family name objects;
+}
+
+-- the chains of objects that may name sets
+abbrev pub with_objects : List ℕ → Question → List Json → Result (List ListedChain) ObjectFault
+with_objects name question objects =
+    objects_read (record {
+      question = begun name question objects;
+      sets = sets_of objects;
+    }) objects
+
+-- the question before any object
 abbrev pub question : Asked → List ℕ → Question
-question asked assumed = record { asked = asked; assumed = assumed; ported = false }
+question asked assumed =
+    record { asked = asked; assumed = assumed; begin = None; ported = false }
 
 -- a fault of the whole file
 abbrev pub whole_fault : ObjectKind → ObjectFault
@@ -290,23 +364,26 @@ abbrev pub objects_of : Json → Option (List Json)
 objects_of value = option_and_then items_of (said_by (codes "nftables") value)
 
 -- the chains of a value
-abbrev pub chains_of_value : Question → Json → Result (List ListedChain) ObjectFault
-chains_of_value question value =
-    or_cause (whole_fault object.NoList) (objects_of value) >>= with_objects question
+abbrev pub chains_of_value : List ℕ → Question → Json → Result (List ListedChain) ObjectFault
+chains_of_value name question value =
+    or_cause (whole_fault object.NoList) (objects_of value) >>= with_objects name question
 
 -- the chains of a text of JSON
-abbrev pub chains_of_document : Question → Option Json → Result (List ListedChain) ObjectFault
-chains_of_document question value =
-    or_cause (whole_fault object.NotJson) value >>= chains_of_value question
+abbrev pub chains_of_document : List ℕ → Question → Option Json →
+    Result (List ListedChain) ObjectFault
+chains_of_document name question value =
+    or_cause (whole_fault object.NotJson) value >>= chains_of_value name question
 
 -- the chains of a text, which is UTF-8
-abbrev pub chains_of_text : Question → List ℕ → Result (List ListedChain) ObjectFault
-chains_of_text question bytes =
-    if is_utf8 bytes then chains_of_document question (document bytes)
+abbrev pub chains_of_text : List ℕ → Question → List ℕ →
+    Result (List ListedChain) ObjectFault
+chains_of_text name question bytes =
+    if is_utf8 bytes then chains_of_document name question (document bytes)
     else Err (whole_fault object.NotJson)
 
--- the chains of a file, under what is assumed
-abbrev pub chains_of : Asked → List ℕ → List ℕ → Result (List ListedChain) ObjectFault
-chains_of asked assumed bytes =
+-- the chains of a file, under what is assumed, where packets come to the base chain of a name
+abbrev pub chains_of : Asked → List ℕ → List ℕ → List ℕ →
+    Result (List ListedChain) ObjectFault
+chains_of asked assumed name bytes =
     if nat_lt max_ruleset (length bytes) then Err (whole_fault object.FileTooLong)
-    else chains_of_text (question asked assumed) bytes
+    else chains_of_text name (question asked assumed) bytes

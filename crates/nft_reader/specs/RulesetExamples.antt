@@ -19,9 +19,10 @@ use Rattle.nft_reader.specs.declared.fault.ObjectKind.TheVariants as object
 use Rattle.nft_reader.specs.declared.fault.RuleFault.{RuleFault}
 use Rattle.nft_reader.specs.declared.fault.RuleKind.{RuleKind}
 use Rattle.nft_reader.specs.declared.fault.RuleKind.TheVariants as kind
-use Rattle.nft_reader.specs.Chains.{ListedChain, Names}
+use Rattle.nft_reader.specs.Chains.{Names}
 use Rattle.nft_reader.specs.Known.{nowhere}
 use Rattle.nft_reader.specs.Ruleset.{chains_of, chains_of_document}
+use Rattle.nft_reader.specs.ShownChains.{ShownChain, shown}
 use Rattle.nft_reader.specs.Stops.{folded}
 
 -- the numbers from one to another
@@ -82,7 +83,7 @@ named name = record { family = codes "inet"; table = codes "f"; name = name }
 
 -- the chains, of which the second has some rules
 abbrev with_rules : List (ListRule (List Span)) → List RuleFault →
-    Result (List ListedChain) ObjectFault
+    Result (List ShownChain) ObjectFault
 with_rules rules faults =
     Ok (record { owner = named (codes "web"); policy = None; rules = []; faults = [] }
     ∷ record { owner = named (codes "in"); policy = Some 2; rules = rules; faults = faults } ∷ [])
@@ -95,25 +96,25 @@ abbrev handles6 : Asked
 handles6 = record { family = family.Ip6; answers = answers.Handle }
 
 -- what a text says that is UTF-8, with such answers, under what is assumed
-abbrev read_as : Asked → List ℕ → List ℕ → Result (List ListedChain) ObjectFault
+abbrev read_as : Asked → List ℕ → List ℕ → Result (List ShownChain) ObjectFault
 read_as asked assumed bytes =
-    chains_of_document (record { asked = asked; assumed = assumed; ported = false })
-    (document bytes)
+    shown (chains_of_document (codes "in")
+    (record { asked = asked; assumed = assumed; begin = None; ported = false }) (document bytes))
 
 -- the same for IPv4 packets, of which nothing is assumed
-abbrev read : List ℕ → Result (List ListedChain) ObjectFault
+abbrev read : List ℕ → Result (List ShownChain) ObjectFault
 read bytes = read_as handles [] bytes
 
 -- what a rule of the chain in says, under what is assumed
-abbrev said_under : List ℕ → List ℕ → Result (List ListedChain) ObjectFault
+abbrev said_under : List ℕ → List ℕ → Result (List ShownChain) ObjectFault
 said_under assumed statements = read_as handles assumed (declarations ++ rule_of statements)
 
 -- what it says for IPv6 packets
-abbrev said6 : List ℕ → Result (List ListedChain) ObjectFault
+abbrev said6 : List ℕ → Result (List ShownChain) ObjectFault
 said6 statements = read_as handles6 [] (declarations ++ rule_of statements)
 
 -- and for IPv4 packets, of which nothing is assumed
-abbrev said : List ℕ → Result (List ListedChain) ObjectFault
+abbrev said : List ℕ → Result (List ShownChain) ObjectFault
 said statements = said_under [] statements
 
 -- ip saddr 10.0.0.1 accept
@@ -234,10 +235,10 @@ of_interface operator key right =
     ++ key ++ codes "}}, \"right\": " ++ right ++ codes "}}, {\"accept\": null}"
 
 -- a rule that accepts all packets, and a cause why no rule file says it
-abbrev accepts : Result (List ListedChain) ObjectFault
+abbrev accepts : Result (List ShownChain) ObjectFault
 accepts = with_rules (rule 7 Decide everything ∷ []) []
 
-abbrev unsaid_by : RuleKind → Result (List ListedChain) ObjectFault
+abbrev unsaid_by : RuleKind → Result (List ShownChain) ObjectFault
 unsaid_by why = with_rules (unsaid ∷ []) (record { handle = 7; kind = why } ∷ [])
 
 -- meta l4proto { tcp, udp } reject with tcp reset, by which the kernel drops packets of UDP too
@@ -328,12 +329,44 @@ an_interface : said_under (codes "in=eth0")
 unfolding json_on_literals folded
 an_interface = refl
 
--- oifname != "eth\*" accept: a name with a `*` in it isn't read
-a_starred_name : said_under (codes "out=eth0")
-    (of_interface (codes "\"!=\"") (codes "\"oifname\"") (codes "\"eth\\\\*\""))
+-- iifname != "eth\*" accept: a name with a `*` in it isn't read
+a_starred_name : said_under (codes "in=eth0")
+    (of_interface (codes "\"!=\"") (codes "\"iifname\"") (codes "\"eth\\\\*\""))
     ≡ unsaid_by kind.CantSay
 unfolding json_on_literals folded
 a_starred_name = refl
+
+-- oifname != "lo" accept, at a hook whose packets don't have it: it is refused whatever is assumed
+an_interface_of_another_hook : said_under (codes "out=eth0")
+    (of_interface (codes "\"!=\"") (codes "\"oifname\"") (codes "\"lo\""))
+    ≡ unsaid_by kind.HookInterface
+unfolding json_on_literals folded
+an_interface_of_another_hook = refl
+
+-- tcp sport != 25 tcp dport != A accept, where A is a port, a set or a range
+abbrev other_ports : List ℕ → List ℕ
+other_ports right =
+    codes "{\"match\": {\"op\": \"!=\", \"left\": {\"payload\": {\"protocol\": \"tcp\", "
+    ++ codes "\"field\": \"sport\"}}, \"right\": 25}}, {\"counter\": null}, "
+    ++ codes "{\"match\": {\"op\": \"!=\", \"left\": {\"payload\": {\"protocol\": \"tcp\", "
+    ++ codes "\"field\": \"dport\"}}, \"right\": " ++ right ++ codes "}}, {\"accept\": null}"
+
+-- of two ports nft may make one comparison
+two_other_ports : said (other_ports (codes "80")) ≡ unsaid_by kind.PortPair
+unfolding json_on_literals folded digits
+two_other_ports = refl
+
+-- of a port and a range it makes two
+a_port_and_a_range : said (other_ports (codes "{\"range\": [80, 90]}"))
+    ≡ with_rules (record {
+      userdata = 7;
+      inside = tcp ∷ any ∷ any ∷ ports ∷ ports ∷ [];
+      but = (all ∷ any ∷ any ∷ (25 to 25) ∷ ports ∷ [])
+          ∷ (all ∷ any ∷ any ∷ ports ∷ (80 to 90) ∷ []) ∷ [];
+      target = Decide;
+    } ∷ []) []
+unfolding json_on_literals folded digits
+a_port_and_a_range = refl
 
 -- queue to 0
 a_queue : said
@@ -432,13 +465,13 @@ unfolding json_on_literals folded
 an_unknown_family = refl
 
 -- what nft lists without -j is no JSON
-no_json : chains_of handles [] (codes "table inet f {")
+no_json : chains_of handles [] [] (codes "table inet f {")
     ≡ Err (record { object = 0; kind = object.NotJson })
 unfolding json_on_literals is_utf8 chars
 no_json = refl
 
 -- so is what isn't UTF-8
-no_text : chains_of handles [] (34 ∷ 255 ∷ 34 ∷ [])
+no_text : chains_of handles [] [] (34 ∷ 255 ∷ 34 ∷ [])
     ≡ Err (record { object = 0; kind = object.NotJson })
 unfolding json_on_literals is_utf8 chars
 no_text = refl

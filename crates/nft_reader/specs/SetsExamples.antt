@@ -13,10 +13,10 @@ use Rattle.nft_reader.specs.declared.known.Answers.TheVariants as answers
 use Rattle.nft_reader.specs.declared.fault.ObjectFault.{ObjectFault}
 use Rattle.nft_reader.specs.declared.fault.RuleFault.{RuleFault}
 use Rattle.nft_reader.specs.declared.fault.RuleKind.TheVariants as kind
-use Rattle.nft_reader.specs.Chains.{ListedChain}
 use Rattle.nft_reader.specs.Keys.{parts_boxes}
 use Rattle.nft_reader.specs.Known.{nowhere}
 use Rattle.nft_reader.specs.Ruleset.{chains_of_document}
+use Rattle.nft_reader.specs.ShownChains.{ShownChain, shown}
 use Rattle.nft_reader.specs.Stops.{folded}
 
 -- the numbers from one to another
@@ -43,7 +43,7 @@ unsaid = rule nowhere (packets (0 to 255) (0 to 4294967295) (0 to 65535))
 
 -- the one chain of a ruleset, with some rules
 abbrev with_rules : List (ListRule (List Span)) → List RuleFault →
-    Result (List ListedChain) ObjectFault
+    Result (List ShownChain) ObjectFault
 with_rules rules faults = Ok (record {
   owner = record { family = codes "ip"; table = codes "f"; name = codes "in" };
   policy = None;
@@ -64,16 +64,17 @@ the_chain =
     codes "{\"chain\": {\"family\": \"ip\", \"table\": \"f\", \"name\": \"in\", \"handle\": 1}}, "
 
 -- what a text says for IPv4 packets, of which nothing is assumed
-abbrev read : List ℕ → Result (List ListedChain) ObjectFault
+abbrev read : List ℕ → Result (List ShownChain) ObjectFault
 read bytes =
-    chains_of_document (record {
+    shown (chains_of_document [] (record {
       asked = record { family = family.Ip4; answers = answers.Handle };
       assumed = [];
+      begin = None;
       ported = false;
-    }) (document bytes)
+    }) (document bytes))
 
 -- a ruleset of objects, a chain, and a rule of it
-abbrev said : List ℕ → List ℕ → Result (List ListedChain) ObjectFault
+abbrev said : List ℕ → List ℕ → Result (List ShownChain) ObjectFault
 said objects statements =
     read (codes "{\"nftables\": [" ++ objects
     ++ the_chain ++ rule_of statements ++ codes "]}")

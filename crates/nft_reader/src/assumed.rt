@@ -10,6 +10,7 @@ ghost use Rattle.list_packets.specs.Assumed.{state_named};
 
 use crate::compared::{Fact, Naming, Operator, Way, is_ip4, is_of};
 use crate::fault::RuleKind;
+use crate::hooks::{Base, knows_state, knows_way};
 use crate::known::Known;
 use crate::sets::at_name;
 use crate::shapes::listed_values;
@@ -49,7 +50,7 @@ fn is_interface_word(naming: Naming, word: &[u8]) -> bool
 }
 
 /// The interface that is assumed.
-fn interface_of(text: &[u8], way: Way) -> Option<&[u8]>
+pub(crate) fn interface_of(text: &[u8], way: Way) -> Option<&[u8]>
     ensures { option_map text_seen result ≡ assumed.interface_of way text.now }
 {
     match way {
@@ -149,6 +150,17 @@ pub(crate) fn state_met(text: &[u8], values: &[Value<'_>]) -> Result<bool, RuleK
     }
 }
 
+/// Whether what is compared is known of packets of a base chain, if there is one.
+pub(crate) fn is_known(begin: Option<Base>, fact: Fact) -> bool
+    ensures { result ≡ assumed.is_known begin fact }
+{
+    match fact {
+        Fact::Nfproto => true,
+        Fact::Interface(way, _) => knows_way(begin, way),
+        Fact::State => knows_state(begin),
+    }
+}
+
 impl Known<'_, '_, '_> {
     ghost use Rattle.std.specs.Prelude.{◌≡◌};
     ghost use Rattle.json.specs.Value.{value_view as view};
@@ -170,10 +182,16 @@ impl Known<'_, '_, '_> {
                 Ok(is_of(self.asked.family, is_ip4))
             }
             Fact::Interface(way, naming) => {
+                if !knows_way(self.begin, way) {
+                    return Err(RuleKind::HookInterface);
+                }
                 let values = elements_of(right).ok_or(RuleKind::CantSay)?;
                 interface_met(self.assumed, way, naming, values)
             }
             Fact::State => {
+                if !knows_state(self.begin) {
+                    return Err(RuleKind::HookState);
+                }
                 let values = state_values(operator, right).ok_or(RuleKind::CantSay)?;
                 state_met(self.assumed, values)
             }

@@ -1,11 +1,13 @@
-//! A chain of a ruleset: its name, its policy and its rules.
+//! A chain of a ruleset: its name, what it is, its policy and its rules.
 
-ghost use Rattle.std.specs.Prelude.{◌≡◌, ◌++◌, ◌<◌, ◌≤◌, length, map, IfOk, IfSome, OnOk};
+ghost use Rattle.std.specs.Prelude.{◌≡◌, ◌++◌, ◌<◌, length, map, IfOk, IfSome, OnOk};
 ghost use Rattle.std.specs.List.{flat_map};
-ghost use Rattle.nft_reader.specs.Chains.{place_of, start_from, start_of};
+ghost use Rattle.nft_reader.specs.Chains.{place_of};
 ghost use Rattle.nft_reader.specs.Ruleset.{branch_rules};
 
-use crate::fault::{RuleFault, StartFault};
+use crate::effects::Effects;
+use crate::fault::RuleFault;
+use crate::hooks::Base;
 use crate::known::{Branch, Outcome};
 use crate::reading::Said;
 use field_defs::Family;
@@ -35,16 +37,29 @@ impl<'a> Model for Owner<'a> {
     } };
 }
 
-/// A chain of a ruleset. Contracts see a record of its name, its policy, its rules and those of
-/// them that no rule file says.
+/// A rule that leads to a chain: its handle, and the place of the chain.
+#[derive(Clone, Copy)]
+pub(crate) struct Lead {
+    pub(crate) handle: u32,
+    pub(crate) place: usize,
+}
+
+/// A chain of a ruleset. Contracts see a record of its name, its handle, what it is, its policy, its
+/// rules and those of them that no rule file says, and what it may do to packets of others.
 #[derive(Drop)]
 pub struct NftChain {
     family: Vec<u8>,
     table: Vec<u8>,
     name: Vec<u8>,
+    handle: u32,
+    base: Option<Base>,
     policy: Option<u32>,
     rules: Vec<ChainRule>,
     faults: Vec<RuleFault>,
+    /// The handle of its first rule that may drop packets by itself.
+    stops: Option<u32>,
+    /// Its rules that lead to chains.
+    leads: Vec<Lead>,
 }
 
 impl Model for NftChain {
@@ -58,33 +73,44 @@ impl Model for NftChain {
         table = chain.table.items;
         name = chain.name.items;
       };
+      handle = chain.handle;
+      base = chain.base;
       policy = chain.policy;
       rules = chain.rules.items;
       faults = chain.faults.items;
+      stops = chain.stops;
+      leads = chain.leads.items;
     } };
 }
 
 impl NftChain {
     ghost use Rattle.std.specs.Prelude.{◌≡◌, [], IfOk, OnOk};
-    ghost use Rattle.nft_reader.specs.Chains.{is_meant, is_start};
-    ghost use Rattle.nft_reader.specs.Ruleset.{with_said};
+    ghost use Rattle.nft_reader.specs.Chains.{is_meant, is_same};
+    ghost use Rattle.nft_reader.specs.Ruleset.{new_chain, with_effects, with_said};
+    ghost use Rattle.nft_reader.specs.Starts.{is_start};
 
-    /// A chain of this name and this policy, without rules. It takes the memory of its names.
+    /// A chain of this name, this handle and this policy, without rules. It takes the memory of its
+    /// names.
     pub(crate) fn new(
         alloc: Global,
         owner: &Owner<'_>,
+        handle: u32,
+        base: Option<Base>,
         policy: Option<u32>,
     ) -> Result<NftChain, AllocError>
-        ensures { IfOk result (λ chain. chain
-            ≡ record { owner = owner.now; policy = policy; rules = []; faults = [] }) }
+        ensures { IfOk result (λ chain. chain ≡ new_chain owner.now handle base policy) }
     {
         Ok(NftChain {
             family: copied(alloc, owner.family)?,
             table: copied(alloc, owner.table)?,
             name: copied(alloc, owner.name)?,
+            handle,
+            base,
             policy,
             rules: Vec::new(alloc),
             faults: Vec::new(alloc),
+            stops: None,
+            leads: Vec::new(alloc),
         })
     }
 
@@ -126,15 +152,70 @@ impl NftChain {
             && !(led && self.policy.is_some())
     }
 
-    /// Whether it has this name, and packets come to it by themselves.
-    fn is_start(&self, name: &[u8]) -> bool
+    /// Whether it has this name, and packets come to it by themselves, by their network's header.
+    pub(crate) fn is_start(&self, name: &[u8]) -> bool
         ensures { result ≡ is_start name.now self.now }
     {
-        self.name.as_slice() == name && self.policy.is_some()
+        self.name.as_slice() == name
+            && self.policy.is_some()
+            && self.family.as_slice() != b"netdev".as_slice()
     }
 
-    /// A rule more. It takes the memory of its packets.
-    pub(crate) fn add(
+    /// Whether it is the other chain.
+    pub(crate) fn is_same(&self, other: &NftChain) -> bool
+        ensures { result ≡ is_same self.now.owner other.now.owner }
+    {
+        self.family.as_slice() == other.family.as_slice()
+            && self.table.as_slice() == other.table.as_slice()
+            && self.name.as_slice() == other.name.as_slice()
+    }
+
+    /// Its handle.
+    pub(crate) fn handle(&self) -> u32
+        ensures { result ≡ self.now.handle }
+    {
+        self.handle
+    }
+
+    /// What it is, if packets come to it by themselves.
+    pub fn base(&self) -> Option<Base>
+        ensures { result ≡ self.now.base }
+    {
+        self.base
+    }
+
+    /// The handle of its first rule that may drop packets of other base chains by itself.
+    pub(crate) fn stops(&self) -> Option<u32>
+        ensures { result ≡ self.now.stops }
+    {
+        self.stops
+    }
+
+    /// Its rules that lead to chains.
+    pub(crate) fn leads(&self) -> &[Lead]
+        ensures { result.now ≡ self.now.leads }
+    {
+        self.leads.as_slice()
+    }
+
+    /// A rule more: what it says, and what it may do to packets of other base chains.
+    pub(crate) fn add_rule(
+        &mut self,
+        alloc: Global,
+        family: Family,
+        handle: u32,
+        said: &Said,
+        effects: &Effects,
+    ) -> Result<(), AllocError>
+        ensures { OnOk result (self.new
+            ≡ with_effects handle effects.now (with_said family handle said.now self.old)) }
+    {
+        self.add(alloc, family, handle, said)?;
+        self.add_effects(handle, effects)
+    }
+
+    /// What a rule more says. It takes the memory of its packets.
+    fn add(
         &mut self,
         alloc: Global,
         family: Family,
@@ -146,6 +227,17 @@ impl NftChain {
         put_branches(&mut self.rules, alloc, family, &said.branches)?;
         if let Some(kind) = said.cause {
             self.faults.push(RuleFault { handle, kind })?;
+        }
+        Ok(())
+    }
+
+    /// What a rule more may do to packets of other base chains.
+    fn add_effects(&mut self, handle: u32, effects: &Effects) -> Result<(), AllocError>
+        ensures { OnOk result (self.new ≡ with_effects handle effects.now self.old) }
+    {
+        self.leads.extend_from_slice(&effects.leads)?;
+        if effects.stops && self.stops.is_none() {
+            self.stops = Some(handle);
         }
         Ok(())
     }
@@ -198,35 +290,6 @@ pub(crate) fn place_of(
 {
     for place in 0..chains.len() {
         if chains[place].is_meant(owner, name, led) {
-            return Some(place);
-        }
-    }
-    None
-}
-
-/// The place of the one chain of a name that packets come to by themselves, whatever its table. It
-/// takes no memory.
-pub fn start_of(chains: &[NftChain], name: &[u8]) -> Result<usize, StartFault>
-    ensures start { result ≡ start_of name.now chains.now }
-    ensures within { IfOk result (λ place. place < length chains.now) }
-{
-    match start_from(chains, name, 0) {
-        None => Err(StartFault::NoStart),
-        Some(place) => match start_from(chains, name, place + 1) {
-            Some(_) => Err(StartFault::ManyStarts),
-            None => Ok(place),
-        },
-    }
-}
-
-/// The place of the first such chain from a place on.
-fn start_from(chains: &[NftChain], name: &[u8], from: usize) -> Option<usize>
-    requires { from ≤ length chains.now }
-    ensures place { result ≡ start_from name.now from chains.now }
-    ensures within { IfSome result (λ place. place < length chains.now) }
-{
-    for place in from..chains.len() {
-        if chains[place].is_start(name) {
             return Some(place);
         }
     }

@@ -230,6 +230,13 @@ fn operator_named(name: &str) -> Option<Operator>
     }
 }
 
+/// Whether an operator is that of inequality.
+pub(crate) fn is_unequal(operator: Operator) -> bool
+    ensures { result ≡ compared.is_unequal operator }
+{
+    matches!(operator, Operator::Unequal)
+}
+
 /// Whether a comparison for equality is turned.
 pub(crate) fn is_negated(operator: Operator) -> Option<bool>
     ensures { result ≡ compared.is_negated operator }

@@ -7,6 +7,7 @@ ghost use Rattle.nft_reader.specs.Shapes.{text_seen};
 
 use crate::chain::{NftChain, Owner, place_of};
 use crate::fault::{RuleKind, Stop};
+use crate::hooks::Base;
 use crate::sets::{NamedSet, at_name};
 use crate::shapes::{len_of, text_in};
 use crate::values::elements_of;
@@ -48,12 +49,14 @@ pub(crate) struct Branch {
     pub(crate) does: Outcome,
 }
 
-/// What is known where objects are read: what is asked and assumed, and the sets of the ruleset.
+/// What is known where objects are read: what is asked and assumed, the base chain that packets come
+/// to, if there is one, and the sets of the ruleset.
 #[derive(Drop)]
 pub(crate) struct Setting<'k, 's, 'a> {
     pub(crate) alloc: Global,
     pub(crate) asked: Asked,
     pub(crate) assumed: &'k [u8],
+    pub(crate) begin: Option<Base>,
     pub(crate) sets: &'k [NamedSet<'s, 'a>],
 }
 
@@ -65,6 +68,7 @@ pub(crate) struct Known<'k, 's, 'a> {
     pub(crate) alloc: Global,
     pub(crate) asked: Asked,
     pub(crate) assumed: &'k [u8],
+    pub(crate) begin: Option<Base>,
     pub(crate) sets: &'k [NamedSet<'s, 'a>],
     pub(crate) chains: &'k [NftChain],
     pub(crate) owner: &'k Owner<'k>,
@@ -133,6 +137,13 @@ impl<'k, 's, 'a> Known<'k, 's, 'a> {
             answer: answer_of(self.asked.answers, self.handle, verdict),
             target,
         }
+    }
+
+    /// The place of that chain, or none.
+    pub(crate) fn led_to(&self, said: &Value<'_>) -> Option<usize>
+        ensures { result ≡ told.led_to (known_of self.now) (view said.now) }
+    {
+        place_of(self.chains, self.owner, target_of(said)?, true)
     }
 
     /// The place of the chain of the same table that a jump names.

@@ -16,7 +16,10 @@
 //! | `maps` | maps to verdicts, element by element |
 //! | `known` | what is asked, and what is known where a rule is read |
 //! | `reading` | a rule, statement by statement |
+//! | `effects` | what a rule may do to packets of other base chains |
+//! | `hooks` | what base chains are, and what is known of their packets |
 //! | `chain` | a chain: its name, its policy and its rules |
+//! | `starts` | the base chain that is asked for, and others on the way of its packets |
 //! | `ruleset` | a ruleset, object by object, and its chains |
 //! | `fault` | why objects aren't read, and rules aren't said |
 //! | `laws` | what members that are counted tell |
@@ -28,7 +31,9 @@ mod assumed;
 mod chain;
 mod compared;
 mod comparison;
+mod effects;
 mod fault;
+mod hooks;
 mod keys;
 mod known;
 mod laws;
@@ -37,10 +42,13 @@ mod reading;
 mod ruleset;
 mod sets;
 mod shapes;
+mod starts;
 mod values;
 
-pub use chain::{NftChain, chains_alone, start_of};
+pub use chain::{NftChain, chains_alone};
 pub use fault::{NftFault, ObjectFault, ObjectKind, RuleFault, RuleKind, StartFault};
+pub use hooks::{Base, ChainType, Hook, Priority};
 pub use known::{Answers, Asked};
 pub use laws::counted_members_are_all;
 pub use ruleset::{MAX_RULESET, read_ruleset};
+pub use starts::{start_of, stopping_chains};

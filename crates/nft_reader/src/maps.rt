@@ -5,6 +5,7 @@ ghost use Rattle.std.specs.List.{list_any};
 ghost use Rattle.json.specs.Value.{value_view as view};
 ghost use Rattle.nft_reader.specs.Maps as maps;
 
+use crate::assumed::is_known;
 use crate::compared::{Left, left_of};
 use crate::comparison::{Comparison, caught_by};
 use crate::fault::{RuleKind, Stop};
@@ -103,7 +104,7 @@ impl<'k, 's, 'a> Known<'k, 's, 'a> {
                 .is_told(&[all], holders)
                 .then_some(held_packets(self.asked.family, holders)),
             Left::OtherFamily => None,
-            Left::Fact(_) => Some(all),
+            Left::Fact(fact) => is_known(self.begin, fact).then_some(all),
         }
     }
 

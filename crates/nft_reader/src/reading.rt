@@ -1,16 +1,18 @@
 //! A rule, statement by statement.
 
-ghost use Rattle.std.specs.Prelude.{◌≡◌, option_map};
+ghost use Rattle.std.specs.Prelude.{◌≡◌, map, option_map};
+ghost use Rattle.std.specs.List.{list_any};
 ghost use Rattle.json.specs.Value.{value_view as view};
 ghost use Rattle.nft_reader.specs.Readings as readings;
 ghost use Rattle.nft_reader.specs.Shapes.{text_seen};
 
-use crate::compared::{is_of, protocol_in};
+use crate::compared::{is_of, is_unequal, protocol_in, sides_of};
 use crate::comparison::{Comparison, caught_by};
 use crate::fault::{RuleKind, Stop};
 use crate::keys::protocol_packets;
 use crate::known::{Branch, Known, Outcome};
-use crate::shapes::{len_of, only, text_in};
+use crate::sets::{at_name, is_text_in};
+use crate::shapes::{len_of, only, said_by, text_in};
 use json::Value;
 use list_chains::Target;
 use list_packets::{Caught, Packets};
@@ -136,6 +138,7 @@ impl Reading {
             chains: known.chains,
             owner: known.owner,
             handle: known.handle,
+            begin: known.begin,
             ported: self.keeps_ported(),
         }
     }
@@ -323,6 +326,64 @@ impl Reading {
     }
 }
 
+/// Whether a value is no list of several, no range and no set.
+fn is_single(value: &Value<'_>) -> bool
+    ensures { result ≡ readings.is_single (view value.now) }
+{
+    only(value).is_none()
+        && value
+            .as_str()
+            .and_then(|text| at_name(text.as_bytes()))
+            .is_none()
+}
+
+/// Whether what is compared is the port of a name.
+fn is_port(name: &str, left: &Value<'_>) -> bool
+    ensures { result ≡ readings.is_port name.now (view left.now) }
+{
+    match said_by("payload", left) {
+        Some(said) => is_text_in("field", name, said),
+        None => false,
+    }
+}
+
+/// Whether a statement says that the port of a name isn't one number.
+fn has_other_port(name: &str, statement: &Value<'_>) -> bool
+    ensures { result ≡ readings.has_other_port name.now (view statement.now) }
+{
+    match said_by("match", statement).and_then(sides_of) {
+        Some(sides) => {
+            is_unequal(sides.operator) && is_port(name, sides.left) && is_single(sides.right)
+        }
+        None => false,
+    }
+}
+
+/// Whether one of some statements does.
+fn any_has_other_port(name: &str, statements: &[Value<'_>]) -> bool
+    ensures { result
+        ≡ list_any (λ statement. readings.has_other_port name.now (view statement)) statements.now }
+{
+    statements
+        .iter()
+        .any(|statement| has_other_port(name, statement))
+}
+
+/// Whether one of the statements of a rule does.
+fn one_has_other_port(name: &str, statements: &[Value<'_>]) -> bool
+    ensures { result
+        ≡ list_any (readings.has_other_port name.now) (map view statements.now) }
+{
+    any_has_other_port(name, statements)
+}
+
+/// Whether a rule says it of both ports.
+fn has_port_pair(statements: &[Value<'_>]) -> bool
+    ensures { result ≡ readings.has_port_pair (map view statements.now) }
+{
+    one_has_other_port("sport", statements) && one_has_other_port("dport", statements)
+}
+
 /// The type of an answer. The usual one is that of both families.
 fn answer_type<'a>(said: &Value<'a>) -> Option<&'a str>
     ensures { option_map text_seen result ≡ readings.answer_type (view said.now) }
@@ -378,6 +439,10 @@ impl<'k, 's, 'a> Known<'k, 's, 'a> {
         ensures { IfOk result (λ said. said
             ≡ readings.with_statements (known_of self.now) (map view statements.now)) }
     {
+        if has_port_pair(statements) {
+            let all = Caught::all(self.alloc, self.asked.family)?;
+            return self.unsaid(RuleKind::PortPair, all);
+        }
         match self.read_all(statements) {
             Ok(reading) => reading.into_said(self),
             Err(Stop::Told(kind)) => self.unsaid(kind, Caught::all(self.alloc, self.asked.family)?),

@@ -5,12 +5,14 @@ ghost use Rattle.std.specs.List.{list_all};
 ghost use Rattle.json.specs.Find.{as_str, get};
 ghost use Rattle.json.specs.Value.{value_view as view};
 ghost use Rattle.nft_reader.specs.Ruleset as listed;
-ghost use Rattle.nft_reader.specs.Shapes.{all_seen, text_seen};
+ghost use Rattle.nft_reader.specs.Sets.{is_text};
+ghost use Rattle.nft_reader.specs.Shapes.{all_seen, text_in as listed_text, text_seen};
 ghost use Rattle.nft_reader.specs.Stops.{IsToldOf};
 
 use crate::chain::{NftChain, Owner, place_of};
 use crate::compared::own_name;
 use crate::fault::{NftFault, ObjectFault, ObjectKind, Stop};
+use crate::hooks::{Base, base_of};
 use crate::known::{Answers, Asked, Known, Setting, answer_of, policy_named};
 use crate::sets::{owner_in, sets_of};
 use crate::shapes::{
@@ -138,11 +140,72 @@ fn is_awake(said: &Value<'_>) -> bool
     }
 }
 
+/// What a base chain of a table of the family is, which has a policy. Others are nothing.
+fn base_in(family: &str, policy: Option<u32>, said: &Value<'_>) -> Result<Option<Base>, ObjectKind>
+    ensures { result ≡ listed.base_in family.now policy (view said.now) }
+{
+    match policy {
+        None => Ok(None),
+        Some(_) => match base_of(family, said) {
+            Some(base) => Ok(Some(base)),
+            None => Err(ObjectKind::BadHook),
+        },
+    }
+}
+
+/// Whether packets of a family come to the network's tables of one of a name.
+fn is_network_of(family: Family, name: &str) -> bool
+    ensures { result ≡ listed.is_network_of family name.now }
+{
+    name == "inet" || name == own_name(family)
+}
+
 /// Whether packets of a family come to tables of one of a name.
 fn is_read(family: Family, name: &str) -> bool
     ensures { result ≡ listed.is_read family name.now }
 {
-    name == "inet" || name == own_name(family)
+    is_network_of(family, name) || name == "netdev"
+}
+
+/// Whether an object has the name.
+fn is_named(name: &[u8], said: &Value<'_>) -> bool
+    ensures { result ≡ is_text name.now (listed_text (codes "name") (view said.now)) }
+{
+    match text_in("name", said) {
+        Some(other) => other.as_bytes() == name,
+        None => false,
+    }
+}
+
+/// What a chain of the network is, if it is a base chain of the name.
+fn begin_said(family: Family, name: &[u8], said: &Value<'_>) -> Option<Base>
+    ensures { result ≡ listed.begin_said family name.now (view said.now) }
+{
+    let of = text_in("family", said)?;
+    if !(is_network_of(family, of) && is_named(name, said)) {
+        return None;
+    }
+    base_of(of, said)
+}
+
+/// The same of an object.
+fn begin_in(family: Family, name: &[u8], object: &Value<'_>) -> Option<Base>
+    ensures { result ≡ listed.begin_in family name.now (view object.now) }
+{
+    begin_said(family, name, said_by("chain", object)?)
+}
+
+/// The first base chain of the name among objects.
+fn begin_of(family: Family, name: &[u8], objects: &[Value<'_>]) -> Option<Base>
+    ensures { result ≡ listed.begin_of family name.now (map view objects.now) }
+{
+    let mut begin = None;
+    for object in objects {
+        if begin.is_none() {
+            begin = begin_in(family, name, object);
+        }
+    }
+    begin
 }
 
 /// Whether a name is that of a family of tables.
@@ -206,6 +269,7 @@ impl<'k, 's, 'a> Setting<'k, 's, 'a> {
             alloc: self.alloc,
             asked: self.asked,
             assumed: self.assumed,
+            begin: self.begin,
             sets: self.sets,
             chains,
             owner: &parts.owner,
@@ -213,7 +277,9 @@ impl<'k, 's, 'a> Setting<'k, 's, 'a> {
             ported: false,
         };
         let said = known.read(parts.statements)?;
-        chains[place].add(self.alloc, self.asked.family, parts.handle, &said)
+        let effects = known.effects(parts.statements)?;
+        let handle = parts.handle;
+        chains[place].add_rule(self.alloc, self.asked.family, handle, &said, &effects)
     }
 
     /// A rule, whose chain stands before it.
@@ -241,10 +307,12 @@ impl<'k, 's, 'a> Setting<'k, 's, 'a> {
         let owner = owner_in("name", said).ok_or(ObjectKind::BadChain)?;
         let handle = handle_in(said).ok_or(ObjectKind::BadChain)?;
         let policy = policy_of(self.asked.answers, handle, said)?;
+        let base = base_in(owner.family, policy, said)?;
         if place_of(chains, &owner, owner.name, false).is_some() {
             return Err(Stop::Told(ObjectKind::ChainTwice));
         }
-        chains.push(NftChain::new(self.alloc, &owner, policy)?)?;
+        let chain = NftChain::new(self.alloc, &owner, handle, base, policy)?;
+        chains.push(chain)?;
         Ok(())
     }
 
@@ -345,11 +413,12 @@ fn read_value(
     alloc: Global,
     asked: Asked,
     assumed: &[u8],
+    name: &[u8],
     value: &Value<'_>,
 ) -> Result<Vec<NftChain>, NftFault>
-    ensures chains { IfOk result (λ chains. listed.chains_of_value
+    ensures chains { IfOk result (λ chains. listed.chains_of_value name.now
         (listed.question asked assumed.now) (view value.now) ≡ Ok chains.items) }
-    ensures fault { IfErr result (IsToldOf (listed.chains_of_value
+    ensures fault { IfErr result (IsToldOf (listed.chains_of_value name.now
         (listed.question asked assumed.now) (view value.now))) }
 {
     let Some(objects) = objects_of(value) else {
@@ -360,6 +429,7 @@ fn read_value(
         alloc,
         asked,
         assumed,
+        begin: begin_of(asked.family, name, objects),
         sets: sets.as_slice(),
     };
     setting.read(objects)
@@ -375,7 +445,9 @@ fn read_value(
 /// A rule that no rule file says leads to no chain, so that `list_chains` refuses each chain whose
 /// packets may come to it; the chain's faults have its cause.
 ///
-/// `assumed` says what is assumed of packets beside their bytes, as `in=eth0,state=new`.
+/// `assumed` says what is assumed of packets beside their bytes, as `in=eth0,state=new`. `name` is
+/// that of the base chain to which the packets come: it tells which interfaces they have, and
+/// whether the state of their connections is known.
 ///
 /// It takes memory in proportion to the file.
 pub fn read_ruleset(
@@ -383,15 +455,17 @@ pub fn read_ruleset(
     bytes: &[u8],
     asked: Asked,
     assumed: &[u8],
+    name: &[u8],
 ) -> Result<Vec<NftChain>, NftFault>
     ensures chains { IfOk result
-        (λ chains. listed.chains_of asked assumed.now bytes.now ≡ Ok chains.items) }
-    ensures fault { IfErr result (IsToldOf (listed.chains_of asked assumed.now bytes.now)) }
+        (λ chains. listed.chains_of asked assumed.now name.now bytes.now ≡ Ok chains.items) }
+    ensures fault { IfErr result
+        (IsToldOf (listed.chains_of asked assumed.now name.now bytes.now)) }
 {
     if is_too_long(bytes) {
         return Err(whole_fault(ObjectKind::FileTooLong));
     }
-    read_text(alloc, bytes, asked, assumed)
+    read_text(alloc, bytes, asked, assumed, name)
 }
 
 /// Whether a ruleset has more bytes than it may have.
@@ -407,15 +481,16 @@ fn read_text(
     bytes: &[u8],
     asked: Asked,
     assumed: &[u8],
+    name: &[u8],
 ) -> Result<Vec<NftChain>, NftFault>
-    ensures chains { IfOk result (λ chains. listed.chains_of_text
+    ensures chains { IfOk result (λ chains. listed.chains_of_text name.now
         (listed.question asked assumed.now) bytes.now ≡ Ok chains.items) }
-    ensures fault { IfErr result (IsToldOf (listed.chains_of_text
+    ensures fault { IfErr result (IsToldOf (listed.chains_of_text name.now
         (listed.question asked assumed.now) bytes.now)) }
 {
     let mut scratch = Scratch::new(alloc);
     match Value::from_slice(alloc, bytes, &mut scratch) {
-        Ok(value) => read_value(alloc, asked, assumed, &value),
+        Ok(value) => read_value(alloc, asked, assumed, name, &value),
         Err(Error::OutOfMemory) => Err(NftFault::OutOfMemory),
         Err(Error::Invalid) => Err(whole_fault(ObjectKind::NotJson)),
         Err(Error::TooLong | Error::DuplicateKey) => unreachable!(),

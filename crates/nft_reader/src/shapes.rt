@@ -97,11 +97,11 @@ pub(crate) fn present(key: &str, value: &Value<'_>) -> usize
 }
 
 /// The number that digits spell, at most so great.
-fn decimal(text: &str, greatest: u64) -> Option<u64>
+pub(crate) fn decimal(text: &[u8], greatest: u64) -> Option<u64>
     ensures number { result ≡ shapes.decimal_of greatest text.now }
     ensures bound { IfSome result (λ number. number ≤ greatest) }
 {
-    let number = digits_value(text.as_bytes(), 10)?;
+    let number = digits_value(text, 10)?;
     (number <= greatest).then_some(number)
 }
 
@@ -110,7 +110,7 @@ pub(crate) fn number_of(value: &Value<'_>, greatest: u64) -> Option<u64>
     ensures number { result ≡ shapes.number_of greatest (view value.now) }
     ensures bound { IfSome result (λ number. number ≤ greatest) }
 {
-    decimal(value.as_number()?, greatest)
+    decimal(value.as_number()?.as_bytes(), greatest)
 }
 
 /// The number of such a member.

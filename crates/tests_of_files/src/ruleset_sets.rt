@@ -124,7 +124,7 @@ fn elements_are_compared_part_by_part(rt: HostRuntime) -> Result<(), Fail> {
 
 #[test]
 fn a_set_that_packets_change_isnt_known(rt: HostRuntime) -> Result<(), Fail> {
-    let saved = read_ruleset(rt.alloc(), SETS.as_bytes(), HANDLES, b"")
+    let saved = read_ruleset(rt.alloc(), SETS.as_bytes(), HANDLES, b"", b"input")
         .ok()
         .expect(&rt, "a lawful ruleset");
     assert!(rt; saved.len() == 2);

@@ -131,7 +131,7 @@ pub(crate) fn rules_at(
     assumed: &[u8],
 ) -> Result<RuleSet, Fail> {
     let (text, place) = ruleset;
-    let saved = read_ruleset(alloc, text.as_bytes(), asked, assumed)
+    let saved = read_ruleset(alloc, text.as_bytes(), asked, assumed, b"input")
         .ok()
         .expect(rt, "a lawful ruleset");
     assert!(rt; place < saved.len());
@@ -196,7 +196,7 @@ fn verdicts_are_told(rt: HostRuntime) -> Result<(), Fail> {
 #[test]
 fn a_state_is_refused_where_packets_come_to_it(rt: HostRuntime) -> Result<(), Fail> {
     let alloc = rt.alloc();
-    let saved = read_ruleset(alloc, SERVER.as_bytes(), HANDLES, b"")
+    let saved = read_ruleset(alloc, SERVER.as_bytes(), HANDLES, b"", b"input")
         .ok()
         .expect(&rt, "a lawful ruleset");
     assert!(rt; saved.len() == 3);
@@ -214,7 +214,7 @@ fn a_state_is_refused_where_packets_come_to_it(rt: HostRuntime) -> Result<(), Fa
 #[test]
 fn the_first_faulty_object_is_told(rt: HostRuntime) -> Result<(), Fail> {
     let text = "{\"nftables\": [{\"metainfo\": {}}, {\"add\": {}}]}";
-    let told = read_ruleset(rt.alloc(), text.as_bytes(), HANDLES, b"")
+    let told = read_ruleset(rt.alloc(), text.as_bytes(), HANDLES, b"", b"input")
         .err()
         .expect(&rt, "a refusal");
     let is_second = match told {
@@ -263,7 +263,7 @@ fn what_is_assumed_decides(rt: HostRuntime) -> Result<(), Fail> {
 #[test]
 fn an_interface_is_needed_if_the_state_is_assumed(rt: HostRuntime) -> Result<(), Fail> {
     let alloc = rt.alloc();
-    let saved = read_ruleset(alloc, HOST.as_bytes(), HANDLES, b"state=new")
+    let saved = read_ruleset(alloc, HOST.as_bytes(), HANDLES, b"state=new", b"input")
         .ok()
         .expect(&rt, "a lawful ruleset");
     assert!(rt; saved.len() == 1);

@@ -1,8 +1,8 @@
 -- No chain so far is the one.
 use Rattle.std.proofs.Common.{◌≡◌, drop}
 use Rattle.std.specs.List.{position_from}
-use Rattle.nft_reader.specs.Chains.{is_start, start_from}
-use Rattle.nft_reader.proofs.chain.start_from.Given as goal
+use Rattle.nft_reader.specs.Starts.{is_start, start_from}
+use Rattle.nft_reader.proofs.starts.start_from.Given as goal
 
 -- the place is that of the first one from here on
 abbrev pub invariant-loop-place : goal.invariant-loop-place
