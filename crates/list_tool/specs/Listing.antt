@@ -1,6 +1,6 @@
 -- The rules of a chain of a saved list or a ruleset, or of a list of a configuration, or the first
 -- thing that can't be said.
-use Rattle.std.specs.Prelude.{ℕ, List, [], ◌∷◌, map, false, slice_get, Option, Some, None}
+use Rattle.std.specs.Prelude.{ℕ, Bool, List, [], ◌∷◌, map, false, slice_get, Option, Some, None}
 use Rattle.std.specs.Prelude.{◌==◌, if◌then◌else◌, Result, Ok, Err}
 use Rattle.field_defs.specs.declared.field.Family.{Family}
 use Rattle.field_defs.specs.declared.field.Family.TheVariants.{Ip4, Ip6}
@@ -32,8 +32,10 @@ use Rattle.nft_reader.specs.declared.fault.ObjectFault.{ObjectFault}
 use Rattle.nft_reader.specs.declared.fault.RuleFault.{RuleFault}
 use Rattle.nft_reader.specs.declared.fault.RuleKind.{RuleKind}
 use Rattle.nft_reader.specs.declared.fault.StartFault.{StartFault}
+use Rattle.nft_reader.specs.declared.fault.StartFault.TheVariants as starting
 use Rattle.nft_reader.specs.Chains as nft
 use Rattle.nft_reader.specs.Ruleset as listed
+use Rattle.nft_reader.specs.Starts as starts
 use Rattle.list_tool.specs.declared.status.ListFault.{ListFault}
 use Rattle.list_tool.specs.declared.status.ListKind.{ListKind}
 use Rattle.list_tool.specs.declared.status.ListKind.TheVariants.{Line, CiscoLine, Object, Rule, BaseChain}
@@ -251,24 +253,34 @@ abbrev pub base_policy : Option nft.ListedChain → Option ℕ
 base_policy None = None
 base_policy (Some chain) = chain.policy
 
+-- where a base chain is that can't be asked: what may drop beside it has a handle
+abbrev pub start_place : StartFault → ListPlace
+start_place starting.NoStart = placed.Object 0
+start_place starting.ManyStarts = placed.Object 0
+start_place starting.NatStart = placed.Object 0
+start_place starting.OtherInterface = placed.Object 0
+start_place (starting.Beside handle) = placed.Handle handle
+
 -- a base chain begins the way, by its place, or there isn't one
 abbrev pub base_at : List nft.ListedChain → Result ℕ StartFault → Result Start ListFault
-base_at chains (Err fault) = Err (at_object 0 (BaseChain fault))
+base_at chains (Err fault) = Err (at_place (start_place fault) (BaseChain fault))
 base_at chains (Ok place) =
     start_with (placed.Object 0) place (base_policy (slice_get chains place))
 
--- the base chain of a name, which no other table has too
-abbrev pub base_chain : List ℕ → List nft.ListedChain → Result Start ListFault
-base_chain name chains = base_at chains (nft.start_of name chains)
+-- the base chain of a name, which no other table has too, and beside which none may drop
+abbrev pub base_chain : List Bool → List ℕ → List ℕ → List nft.ListedChain →
+    Result Start ListFault
+base_chain stopping assumed name chains =
+    base_at chains (starts.start_with stopping assumed name chains)
 
 -- the faults of the rules of each chain
 abbrev pub faults_alone : List nft.ListedChain → List (List RuleFault)
 faults_alone chains = map (λ chain. chain.faults) chains
 
 -- the chains of a ruleset, which begin at the base chain of a name
-abbrev pub ruleset_from : List ℕ → List nft.ListedChain → Result WayView ListFault
-ruleset_from name chains =
-    base_chain name chains >>= λ start. Ok (record {
+abbrev pub ruleset_from : List ℕ → List ℕ → List nft.ListedChain → Result WayView ListFault
+ruleset_from assumed name chains =
+    base_chain (starts.stopping_chains chains) assumed name chains >>= λ start. Ok (record {
       chains = map (λ chain. chain.rules) chains;
       faults = faults_alone chains;
       start = start;
@@ -278,7 +290,7 @@ ruleset_from name chains =
 abbrev pub ruleset_way :
     ruleset_asked.Asked → List ℕ → List ℕ → List ℕ → Result WayView ListFault
 ruleset_way asked assumed name bytes =
-    or_unread_object (listed.chains_of asked assumed bytes) >>= ruleset_from name
+    or_unread_object (listed.chains_of asked assumed name bytes) >>= ruleset_from assumed name
 
 -- ---- all forms
 

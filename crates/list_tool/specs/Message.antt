@@ -110,6 +110,7 @@ object_text object.NoFamily = codes "no family"
 object_text object.BadTable = codes "table that may be dormant"
 object_text object.BadChain = codes "bad chain"
 object_text object.BadPolicy = codes "bad policy"
+object_text object.BadHook = codes "no such type, hook and priority"
 object_text object.ChainTwice = codes "chain declared twice"
 object_text object.BadRule = codes "bad rule"
 object_text object.NoChain = codes "chain not declared"
@@ -126,12 +127,18 @@ rule_text rule.ChangingSet = codes "set that changes"
 rule_text rule.OtherSet = codes "unknown kind of set"
 rule_text rule.NeedsInterface = codes "interface not assumed"
 rule_text rule.NeedsState = codes "state not assumed"
+rule_text rule.HookInterface = codes "interface that its packets don't have"
+rule_text rule.HookState = codes "state that isn't known yet"
+rule_text rule.PortPair = codes "both ports unequal, which nft may join"
 rule_text rule.CantSay = codes "matches what no rule file says"
 
 -- and of a name of base chains
 abbrev pub start_text : StartFault → List ℕ
 start_text start.NoStart = codes "no base chain of this name"
 start_text start.ManyStarts = codes "base chains of this name in many tables"
+start_text start.NatStart = codes "base chain of type nat"
+start_text start.OtherInterface = codes "assumes an interface packets don't have"
+start_text (start.Beside handle) = codes "may drop in another base chain"
 
 -- what is told of a list
 abbrev pub list_text : ListKind → List ℕ

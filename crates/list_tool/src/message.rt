@@ -245,6 +245,7 @@ fn object_kind(fault: ObjectKind) -> &'static [u8]
         ObjectKind::BadTable => b"table that may be dormant",
         ObjectKind::BadChain => b"bad chain",
         ObjectKind::BadPolicy => b"bad policy",
+        ObjectKind::BadHook => b"no such type, hook and priority",
         ObjectKind::ChainTwice => b"chain declared twice",
         ObjectKind::BadRule => b"bad rule",
         ObjectKind::NoChain => b"chain not declared",
@@ -265,6 +266,9 @@ fn rule_kind(fault: RuleKind) -> &'static [u8]
         RuleKind::OtherSet => b"unknown kind of set",
         RuleKind::NeedsInterface => b"interface not assumed",
         RuleKind::NeedsState => b"state not assumed",
+        RuleKind::HookInterface => b"interface that its packets don't have",
+        RuleKind::HookState => b"state that isn't known yet",
+        RuleKind::PortPair => b"both ports unequal, which nft may join",
         RuleKind::CantSay => b"matches what no rule file says",
     }
 }
@@ -275,5 +279,8 @@ fn start_kind(fault: StartFault) -> &'static [u8]
     match fault {
         StartFault::NoStart => b"no base chain of this name",
         StartFault::ManyStarts => b"base chains of this name in many tables",
+        StartFault::NatStart => b"base chain of type nat",
+        StartFault::OtherInterface => b"assumes an interface packets don't have",
+        StartFault::Beside(_) => b"may drop in another base chain",
     }
 }

@@ -3,14 +3,15 @@
 ghost use Rattle.std.specs.Prelude.{◌≡◌, ◌<◌, length, map, IfErr, IfOk, Ok};
 ghost use Rattle.nft_reader.specs.Ruleset.{chains_of};
 ghost use Rattle.list_tool.specs.Listing.{at_object, base_chain, faults_alone, or_unread_object};
-ghost use Rattle.list_tool.specs.Listing.{rule_answers, ruleset_way};
+ghost use Rattle.list_tool.specs.Listing.{rule_answers, ruleset_way, start_place};
 ghost use Rattle.list_tool.specs.Printed.{Refuses};
 ghost use Rattle.list_tool.specs.Requests.{way_view};
 
 use crate::listing::{Start, Way, start_with};
 use crate::status::{ListFault, ListKind, ListPlace, Refusal};
 use iptables_reader::Answers;
-use nft_reader::{Asked, NftChain, NftFault, RuleFault, chains_alone, read_ruleset, start_of};
+use nft_reader::{Asked, NftChain, NftFault, RuleFault, StartFault, chains_alone, read_ruleset};
+use nft_reader::{start_of, stopping_chains};
 use std::alloc::{AllocError, Global};
 
 /// The chains of a ruleset, and the base chain of a name.
@@ -27,8 +28,9 @@ pub(crate) fn ruleset_way(
     ensures refused { IfErr result
         (Refuses (ruleset_way asked assumed.now name.now bytes.now)) }
 {
-    let saved = ruleset_chains(alloc, bytes, asked, assumed)?;
-    let start = match base_chain(&saved, name) {
+    let saved = ruleset_chains(alloc, bytes, asked, assumed, name)?;
+    let stopping = stopping_chains(alloc, &saved)?;
+    let start = match base_chain(&saved, &stopping, assumed, name) {
         Ok(start) => start,
         Err(fault) => return Err(Refusal::Fault(fault)),
     };
@@ -47,13 +49,14 @@ fn ruleset_chains(
     bytes: &[u8],
     asked: Asked,
     assumed: &[u8],
+    name: &[u8],
 ) -> Result<Vec<NftChain>, Refusal>
     ensures chains { IfOk result
-        (λ chains. chains_of asked assumed.now bytes.now ≡ Ok chains.items) }
+        (λ chains. chains_of asked assumed.now name.now bytes.now ≡ Ok chains.items) }
     ensures refused { IfErr result
-        (Refuses (or_unread_object (chains_of asked assumed.now bytes.now))) }
+        (Refuses (or_unread_object (chains_of asked assumed.now name.now bytes.now))) }
 {
-    match read_ruleset(alloc, bytes, asked, assumed) {
+    match read_ruleset(alloc, bytes, asked, assumed, name) {
         Ok(chains) => Ok(chains),
         Err(NftFault::Object(fault)) => {
             let kind = ListKind::Object(fault.kind);
@@ -83,14 +86,33 @@ fn at_object(number: usize, kind: ListKind) -> ListFault
     }
 }
 
-/// The base chain of a name, which no other table has too. It takes no memory.
-fn base_chain(saved: &[NftChain], name: &[u8]) -> Result<Start, ListFault>
-    ensures start { result ≡ base_chain name.now saved.now }
+/// Where a base chain is that can't be asked: what may drop beside it has a handle.
+fn start_place(fault: StartFault) -> ListPlace
+    ensures { result ≡ start_place fault }
+{
+    match fault {
+        StartFault::Beside(handle) => ListPlace::Handle(handle),
+        _ => ListPlace::Object(0),
+    }
+}
+
+/// The base chain of a name, which no other table has too, and beside which none may drop. It takes
+/// no memory.
+fn base_chain(
+    saved: &[NftChain],
+    stopping: &[bool],
+    assumed: &[u8],
+    name: &[u8],
+) -> Result<Start, ListFault>
+    ensures start { result ≡ base_chain stopping.now assumed.now name.now saved.now }
     ensures within { IfOk result (λ start. start.place < length saved.now) }
 {
-    match start_of(saved, name) {
+    match start_of(saved, stopping, assumed, name) {
         Ok(place) => start_with(ListPlace::Object(0), place, saved[place].policy()),
-        Err(fault) => Err(at_object(0, ListKind::BaseChain(fault))),
+        Err(fault) => Err(ListFault {
+            place: start_place(fault),
+            kind: ListKind::BaseChain(fault),
+        }),
     }
 }
 

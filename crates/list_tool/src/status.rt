@@ -37,7 +37,8 @@ pub enum ListKind {
     Object(ObjectKind),
     /// No rule file says the rule of a ruleset.
     Rule(RuleKind),
-    /// The ruleset has no chain of the name that packets come to by themselves, or several.
+    /// The ruleset has no chain of the name that packets come to by themselves, or several, or one
+    /// that can't be asked.
     BaseChain(StartFault),
     /// The list has no chain of the name. It stands in no line.
     NoChain,
