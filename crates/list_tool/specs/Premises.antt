@@ -28,8 +28,8 @@ abbrev pub beside_text : Form → List ℕ → List ℕ
 beside_text Iptables bytes = tables_text bytes
 beside_text Ip6tables bytes = tables_text bytes
 beside_text Cisco bytes = codes "Whether another access list drops them isn't known."
-beside_text Nft bytes = codes "Whether another base chain drops them isn't known."
-beside_text Nft6 bytes = codes "Whether another base chain drops them isn't known."
+beside_text Nft bytes = codes "No other base chain of this ruleset drops them."
+beside_text Nft6 bytes = codes "No other base chain of this ruleset drops them."
 
 -- what is assumed of each of them
 abbrev pub assumed_text : List ℕ → List ℕ

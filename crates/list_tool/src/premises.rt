@@ -62,7 +62,7 @@ fn beside_text(form: Form, bytes: &[u8]) -> &'static [u8]
     match form {
         Form::Iptables | Form::Ip6tables => tables_text(bytes),
         Form::Cisco => b"Whether another access list drops them isn't known.",
-        Form::Nft | Form::Nft6 => b"Whether another base chain drops them isn't known.",
+        Form::Nft | Form::Nft6 => b"No other base chain of this ruleset drops them.",
     }
 }
 

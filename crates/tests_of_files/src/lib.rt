@@ -20,7 +20,7 @@
 //! | `ranks` | ranks by priorities and places |
 //! | `router_lists` | lists of Cisco IOS, and the packets that they decide |
 //! | `rule_files` | rule files as people write them, printed rules and lists |
-//! | `rulesets`, `ruleset_sets` | rulesets of nft, and the packets that they decide |
+//! | `rulesets`, `ruleset_sets`, `ruleset_starts` | rulesets of nft, and the packets that they decide |
 //! | `saved_lists` | lists of iptables-save, and the packets that they decide |
 //! | `stored` | rules that are stored |
 //! | `texts` | texts of addresses and numbers |

@@ -94,7 +94,7 @@ pub(crate) const RULESET: &str = r#"{"nftables":[
 pub(crate) const RULESET_LINES: &str =
     "# IPv4 packets that come to this base chain:
 # in
-# Whether another base chain drops them isn't known.
+# No other base chain of this ruleset drops them.
 # Of each of them this is assumed:
 # nothing
 # Headers are complete: on others a match of ports fails.
