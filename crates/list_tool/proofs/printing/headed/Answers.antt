@@ -7,7 +7,7 @@ use Rattle.list_tool.proofs.printing.headed.Goals as goal
 
 pub loop-text-preserved : goal.loop-text-preserved
 loop-text-preserved c =
-    writes_one c.text-item.result c.loop-text.invariant c.loop-text-test.true c.text-item.is
+    writes_one _ c.loop-text.invariant c.loop-text-test.true refl
     (ap line_views c.in_ok-push.ensures.items ∙ map_push line_view c.loop-text.lines.items _) refl
 
 pub returns : goal.returns
