@@ -10,8 +10,10 @@ ghost use Rattle.list_tool.specs.Requests.{way_view};
 use crate::listing::{Start, Way, start_with};
 use crate::status::{ListFault, ListKind, ListPlace, Refusal};
 use iptables_reader::Answers;
-use nft_reader::{Asked, NftChain, NftFault, RuleFault, StartFault, chains_alone, read_ruleset};
-use nft_reader::{start_of, stopping_chains};
+use nft_reader::{
+    Asked, NftChain, NftFault, RuleFault, StartFault, chains_alone, read_ruleset, start_of,
+    stopping_chains,
+};
 use std::alloc::{AllocError, Global};
 
 /// The chains of a ruleset, and the base chain of a name.

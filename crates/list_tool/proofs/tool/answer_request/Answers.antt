@@ -19,7 +19,7 @@ returns-in-Ok-clause-message g c =
     subst (λ (line : List ℕ). PutsLine line (g.E.Sink.view c.args.err.now) (g.E.Sink.view c.put_message.new.err))
     (said_read (heard_of (g.D.Desk.view c.read_file.new.desk)) (heard_of (g.D.Desk.view c.args.desk.now)) read.file
     c.as_bytes.result.now c.deref-in-Ok.result.now c.answer_bytes-status.result read.heard
-    read.named (read.bytes ∙ sym c.deref-in-Ok.ensures.value))
+    (read.named ∙ sym c.as_bytes.ensures.value) (read.bytes ∙ sym c.deref-in-Ok.ensures.value))
     c.put_message.ensures
 
 pub returns-in-Err-clause-answers : goal.returns-in-Err-clause-answers
@@ -36,7 +36,7 @@ returns-in-Err-clause-message g c =
     (λ (line : List ℕ). PutsLine line (g.E.Sink.view c.args.err.now) (g.E.Sink.view c.put_message-in-Err.new.err))
     (said_unread (heard_of (g.D.Desk.view c.read_file.new.desk)) (heard_of (g.D.Desk.view c.args.desk.now)) read.file
     c.as_bytes-in-Err.result.now c.in-Err.status read.heard
-    read.named (elim read.fault [
+    (read.named ∙ sym c.as_bytes-in-Err.ensures.value) (elim read.fault [
       | inl full ↦ inl full
       | inr fault ↦ inr fault.0
     ]))
