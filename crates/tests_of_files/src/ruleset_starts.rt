@@ -8,8 +8,7 @@ use std::test::Fail;
 
 /// A host that forwards. Its chain raw leads to a chain that may drop, its chain nat doesn't, and
 /// its chain input drops packets that none of the others sees.
-const ROUTER: &str =
-    "{\"nftables\": [{\"metainfo\": {\"version\": \"1.0.6\"}}, \
+const ROUTER: &str = "{\"nftables\": [{\"metainfo\": {\"version\": \"1.0.6\"}}, \
     {\"table\": {\"family\": \"inet\", \"name\": \"f\", \"handle\": 1}}, \
     {\"chain\": {\"family\": \"inet\", \"table\": \"f\", \"name\": \"input\", \"handle\": 1, \
     \"type\": \"filter\", \"hook\": \"input\", \"prio\": 0, \"policy\": \"drop\"}}, \

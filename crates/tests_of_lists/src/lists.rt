@@ -11,8 +11,7 @@ COMMIT
 ";
 
 /// Its rules, each with the number of its line.
-pub(crate) const SAVED_LINES: &str =
-    "# IPv4 packets that come to this chain of filter:
+pub(crate) const SAVED_LINES: &str = "# IPv4 packets that come to this chain of filter:
 # INPUT
 # Other tables weren't in this list, so whether one drops them isn't known.
 # Of each of them this is assumed:
@@ -27,8 +26,7 @@ pub(crate) const SAVED_LINES: &str =
 ";
 
 /// The same with verdicts: 1 accepts and 2 drops.
-pub(crate) const SAVED_VERDICTS: &str =
-    "# IPv4 packets that come to this chain of filter:
+pub(crate) const SAVED_VERDICTS: &str = "# IPv4 packets that come to this chain of filter:
 # INPUT
 # Other tables weren't in this list, so whether one drops them isn't known.
 # Of each of them this is assumed:
@@ -46,8 +44,7 @@ pub(crate) const SAVED_VERDICTS: &str =
 pub(crate) const SAVED6: &str = "*filter\n:FORWARD DROP [0:0]\nCOMMIT\n";
 
 /// A chain without rules lets its policy decide, which has the number of its line.
-pub(crate) const SAVED6_LINES: &str =
-    "# IPv6 packets that come to this chain of filter:
+pub(crate) const SAVED6_LINES: &str = "# IPv6 packets that come to this chain of filter:
 # FORWARD
 # Other tables weren't in this list, so whether one drops them isn't known.
 # Of each of them this is assumed:
@@ -91,8 +88,7 @@ pub(crate) const RULESET: &str = r#"{"nftables":[
 "#;
 
 /// Its rules, each with its handle, the chain's where its policy decides.
-pub(crate) const RULESET_LINES: &str =
-    "# IPv4 packets that come to this base chain:
+pub(crate) const RULESET_LINES: &str = "# IPv4 packets that come to this base chain:
 # in
 # No other base chain of this ruleset drops them.
 # Of each of them this is assumed:
