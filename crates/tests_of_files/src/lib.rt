@@ -53,6 +53,7 @@ mod router_lists;
 mod rule_files;
 #[cfg(test)]
 mod ruleset_sets;
+#[cfg(test)]
 mod ruleset_starts;
 #[cfg(test)]
 mod rulesets;
