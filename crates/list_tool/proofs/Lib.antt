@@ -6,3 +6,4 @@ pub mod Texts
 pub mod Asked
 pub mod Lines
 pub mod Passing
+pub mod Turning

@@ -121,26 +121,43 @@ of_no_cause = refl
 
 -- ---- lines on standard error
 
-a_message : message (Refused (at_line 5 Loop)) ≡ codes "aclc-lists: list: line 5: loop\n"
+a_message : message [] [] (Refused (at_line 5 Loop)) ≡ codes "aclc-lists: list: line 5: loop\n"
 unfolding digits
 a_message = refl
 
-of_an_entry : message (Refused (at_line 1 (CiscoLine entry.Compares)))
+of_an_entry : message [] [] (Refused (at_line 1 (CiscoLine entry.Compares)))
     ≡ codes "aclc-lists: list: line 1: matches what no rule file says\n"
 unfolding digits
 of_an_entry = refl
 
-of_a_rule : message (Refused (at_place (placed.Handle 18) (Rule rule.CantSay)))
+of_a_rule : message [] [] (Refused (at_place (placed.Handle 18) (Rule rule.CantSay)))
     ≡ codes "aclc-lists: list: handle 18: matches what no rule file says\n"
 unfolding digits
 of_a_rule = refl
 
-of_an_object : message (Refused (at_object 2 (Object object.UnknownObject)))
+of_an_object : message [] [] (Refused (at_object 2 (Object object.UnknownObject)))
     ≡ codes "aclc-lists: list: object 2: unknown object\n"
 unfolding digits
 of_an_object = refl
 
-of_words : message (Usage (fault_at 1 UnknownCommand))
+of_words : message [] [] (Usage (fault_at 1 UnknownCommand))
     ≡ codes "aclc-lists: usage: word 1: unknown command\n"
 unfolding digits
 of_words = refl
+
+-- below it stands the line, if the fault stands in one
+of_a_line : message (codes "fw") (codes "*filter\n:INPUT ACCEPT [0:0]\n-A INPUT -x\n")
+    (Refused (at_line 3 (Line kind.UnknownOption)))
+    ≡ codes "aclc-lists: list: line 3: unknown option\n  -A INPUT -x\n"
+unfolding digits
+of_a_line = refl
+
+-- that a list isn't there is told of the end
+of_no_list : message (codes "edge") (codes "hostname a\n") (Refused (at_line 1 (CiscoLine entry.NoList)))
+    ≡ codes "aclc-lists: list: line 1: no such list\n"
+unfolding digits
+of_no_list = refl
+
+-- and what can't be read is named
+of_a_name : message (codes "none.list") [] ReadFault ≡ codes "aclc-lists: none.list: read fault\n"
+of_a_name = refl

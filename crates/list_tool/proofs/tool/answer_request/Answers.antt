@@ -1,5 +1,6 @@
-use Rattle.std.proofs.Common.{◌∙◌, List, ℕ, [], sym, subst, inl, inr}
+use Rattle.std.proofs.Common.{◌∙◌, List, ℕ, [], ap, sym, subst, inl, inr}
 use Rattle.command_ending.specs.StepEffects.{PutsLine, heard_of}
+use Rattle.list_tool.specs.Message.{message, message_after}
 use Rattle.list_tool.specs.Requests.{request_of}
 use Rattle.list_tool.proofs.Endings.{answers_read, answers_unread, said_read, said_unread}
 use Rattle.list_tool.proofs.tool.answer_request.Goals as goal
@@ -31,13 +32,15 @@ returns-in-Err-clause-answers g c =
 pub returns-in-Err-clause-message : goal.returns-in-Err-clause-message
 returns-in-Err-clause-message g c =
     let read = c.in-Err.ensures in
-    rw c.unread-status.ensures
-    (subst
-    (λ (line : List ℕ). PutsLine line (g.E.Sink.view c.args.err.now) (g.E.Sink.view c.put_message-in-Err.new.err))
-    (said_unread (heard_of (g.D.Desk.view c.read_file.new.desk)) (heard_of (g.D.Desk.view c.args.desk.now)) read.file
-    c.as_bytes-in-Err.result.now c.in-Err.status read.heard
+    let name = c.as_bytes-in-Err.result.now in
+    let heard = heard_of (g.D.Desk.view c.read_file.new.desk) in
+    let is = c.unread-status.ensures in
+    subst (λ (line : List ℕ). PutsLine line (g.E.Sink.view c.args.err.now) (g.E.Sink.view c.put_message-in-Err.new.err))
+    (ap (message name []) is
+    ∙ said_unread heard (heard_of (g.D.Desk.view c.args.desk.now)) read.file name c.in-Err.status read.heard
     (read.named ∙ sym c.as_bytes-in-Err.ensures.value) (elim read.fault [
       | inl full ↦ inl full
       | inr fault ↦ inr fault.0
-    ]))
-    c.put_message-in-Err.ensures)
+    ])
+    ∙ sym (ap (message_after heard) is))
+    c.put_message-in-Err.ensures
