@@ -30,7 +30,7 @@ class Ends(unittest.TestCase):
                                        env={**os.environ, "TMPDIR": str(self.folder), "ACLC": str(built_program())})
             os.close(reading)
             deadline = time.monotonic() + 60
-            while not list(self.folder.glob("aclc-*/*.pcap")) and time.monotonic() < deadline:
+            while not list(self.folder.glob("aclc-*/*.rules")) and time.monotonic() < deadline:
                 time.sleep(0.05)
             self.assertTrue(list(self.folder.glob("aclc-*/*.rules")))
             started.send_signal(number)
