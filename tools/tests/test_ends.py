@@ -12,7 +12,7 @@ from pathlib import Path
 from aclc_tools.program import TOP, built_program
 from tool import BUILT, DATA, EXAMPLES, tool
 
-SAVED = (DATA / "gateway.iptables-save").read_bytes()
+SAVED = (DATA / "gateway.iptables-save").read_bytes() + b"*raw\nCOMMIT\n"
 
 
 class Ends(unittest.TestCase):
@@ -33,6 +33,8 @@ class Ends(unittest.TestCase):
             while not list(self.folder.glob("aclc-*/*.rules")) and time.monotonic() < deadline:
                 time.sleep(0.05)
             self.assertTrue(list(self.folder.glob("aclc-*/*.rules")))
+            # It reads the capture by then.
+            time.sleep(2)
             started.send_signal(number)
             said = started.communicate()[1]
             os.close(writing)
