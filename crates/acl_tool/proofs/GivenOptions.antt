@@ -1,13 +1,11 @@
 -- The options of a command are what the first words say that begin so.
-use Rattle.std.proofs.Common.{◌≡◌, ◌≢◌, ℕ, ◌+◌, ◌<◌, List, [], ◌∷◌, Bool, true, false, Option, Some, None, Result}
-use Rattle.std.proofs.Common.{Ok, Err, refl, sym, ap, ◌∙◌, length, take}
-use Rattle.std.specs.Prelude.{codes, get_or, nat_le, ◌==◌, ◌^◌, ◌-◌, ◌&&◌, if◌then◌else◌}
+use Rattle.std.proofs.Common.{◌≡◌, ℕ, ◌+◌, List, [], ◌∷◌, Bool, true, false, Option, Some, None, Result}
+use Rattle.std.proofs.Common.{Ok, Err, refl, sym, ap, ◌∙◌, length}
+use Rattle.std.specs.Prelude.{codes, nat_le, ◌^◌, ◌-◌, ◌&&◌, if◌then◌else◌}
 use Rattle.rule_set.specs.Categories.{is_count_of_categories}
 use Rattle.std.specs.Option.{option_map_or, unwrap_or}
 use Rattle.std.specs.Str.{bytes_eq}
-use Rattle.std.proofs.lemmas.Bool.{eqb-false, false≢true, ltb-true}
-use Rattle.std.proofs.lemmas.List.{get_or-take}
-use Rattle.std.proofs.lemmas.Slice.Eq.{bytes_eq-Decides}
+use Rattle.std.proofs.lemmas.Bool.{false≢true}
 use Rattle.text_scan.specs.Digits.{are_digits, place_value}
 use Rattle.flat_table.specs.declared.walk.Walk.{Walk}
 use Rattle.command_words.specs.declared.allowed.Allowed.{Allowed}
@@ -18,6 +16,7 @@ use Rattle.command_words.specs.Options.{usual_words, categories_in, walk_in, bud
 use Rattle.command_words.specs.Options.{none_given, is_budget, max_digits}
 use Rattle.command_words.specs.Options.{categories_option, walk_option, max_words_option, stats_option, marks_option}
 use Rattle.command_words.specs.Command.{options_from, option_then}
+use Rattle.acl_tool.proofs.OptionNames.{meet, no_two_names}
 use Rattle.acl_tool.specs.GivenOptions.{value_given, categories_shown, is_on}
 use Rattle.acl_tool.specs.GivenBudget.{budget_given}
 
@@ -66,44 +65,6 @@ choice-spelled text chosen is = go (bytes_eq text (codes "on")) (bytes_eq text (
     go true off e = cc
     go false true e = cc
     go false false e = absurd (cc)
-
--- the third letter of a word that begins with a name
-third : (name word : List ℕ) → 2 < length name → begins_with name word ≡ true →
-    get_or word 2 0 ≡ get_or name 2 0
-third name word long begins =
-    sym (get_or-take (length name) word 2 0 long)
-    ∙ ap (λ (l : List ℕ). get_or l 2 0) ((bytes_eq-Decides (take (length name) word) name).0 begins)
-
--- no word begins with the names of two options: their third letters differ
-apart : (one other word : List ℕ) (a b : ℕ) → 2 < length one → 2 < length other → get_or one 2 0 ≡ a →
-    get_or other 2 0 ≡ b → a ≢ b → begins_with one word ≡ true → begins_with other word ≡ true → ⊥
-apart one other word a b one_long other_long is_a is_b differ begins also =
-    differ (sym is_a ∙ sym (third one word one_long begins) ∙ third other word other_long also ∙ is_b)
-
--- The name of an option is long enough, and this is its third letter.
-record IsOption (name : List ℕ) (letter : ℕ) : Type 0 where
-  long : 2 < length name
-  is : get_or name 2 0 ≡ letter
-
--- the third letter of `categories=` is `t`
-categories_is : IsOption categories_option 116
-categories_is = record { long = ltb-true 2 (length categories_option) refl; is = refl }
-
--- the third letter of `walk=` is `l`
-walk_is : IsOption walk_option 108
-walk_is = record { long = ltb-true 2 (length walk_option) refl; is = refl }
-
--- the third letter of `max_words=` is `x`
-max_words_is : IsOption max_words_option 120
-max_words_is = record { long = ltb-true 2 (length max_words_option) refl; is = refl }
-
--- the third letter of `stats=` is `a`
-stats_is : IsOption stats_option 97
-stats_is = record { long = ltb-true 2 (length stats_option) refl; is = refl }
-
--- the third letter of `marks=` is `r`
-marks_is : IsOption marks_option 114
-marks_is = record { long = ltb-true 2 (length marks_option) refl; is = refl }
 
 -- What a lawful word is: one of the five options, given for the first time with a lawful value.
 data AddsOption (given next : Given) (word : List ℕ) : Type 0 where
@@ -215,53 +176,49 @@ says_own v begins first at is = record {
 }
 
 -- a word that begins with the name of another option says nothing to it
-says_other : {A : Type 0} {other : List ℕ} {option : KeptOption A} {a b : ℕ} {given next changed : Given}
-    {word : List ℕ} → IsOption other a → IsOption option.name b → (a == b) ≡ false → begins_with other word ≡ true →
-    next ≡ changed → option.seen changed ≡ option.seen given → Says option given next word
-says_other {other = other} {option = option} {a = a} {b = b} {word = word} one own differ begins at same = record {
-  new = λ also. absurd (never also);
-  first = λ also. absurd (never also);
+says_other : {A : Type 0} {option : KeptOption A} {given next changed : Given} {word : List ℕ} (other : List ℕ) →
+    meet other option.name ≡ false → begins_with other word ≡ true → next ≡ changed →
+    option.seen changed ≡ option.seen given → Says option given next word
+says_other {option = option} {word = word} other apart begins at same = record {
+  new = λ also. absurd (no_two_names other option.name word apart begins also);
+  first = λ also. absurd (no_two_names other option.name word apart begins also);
   same = λ also. ap option.seen at ∙ same;
 }
-  where
-    never : begins_with option.name word ≡ true → ⊥
-    never also =
-        apart other option.name word a b one.long own.long one.is own.is (eqb-false a b differ) begins also
 
 -- what a lawful word says of each of them
 says_categories : {given next : Given} {word : List ℕ} → AddsOption given next word →
     Says categories_kept given next word
 says_categories {word = word} (TakesCategories v begins first is at) =
     says_own v begins first (ap categories_kept.seen at) (categories-spelled (value_of categories_option word) v is)
-says_categories (TakesWalk v begins at) = says_other walk_is categories_is refl begins at refl
-says_categories (TakesWords v begins first is at) = says_other max_words_is categories_is refl begins at refl
-says_categories (TakesStats v begins first is at) = says_other stats_is categories_is refl begins at refl
-says_categories (TakesMarks v begins first is at) = says_other marks_is categories_is refl begins at refl
+says_categories (TakesWalk v begins at) = says_other walk_option refl begins at refl
+says_categories (TakesWords v begins first is at) = says_other max_words_option refl begins at refl
+says_categories (TakesStats v begins first is at) = says_other stats_option refl begins at refl
+says_categories (TakesMarks v begins first is at) = says_other marks_option refl begins at refl
 
 -- a word that adds an option says a value to `max_words=` or nothing
 says_max_words : {given next : Given} {word : List ℕ} → AddsOption given next word → Says max_words_kept given next word
-says_max_words (TakesCategories v begins first is at) = says_other categories_is max_words_is refl begins at refl
-says_max_words (TakesWalk v begins at) = says_other walk_is max_words_is refl begins at refl
+says_max_words (TakesCategories v begins first is at) = says_other categories_option refl begins at refl
+says_max_words (TakesWalk v begins at) = says_other walk_option refl begins at refl
 says_max_words {word = word} (TakesWords v begins first is at) =
     says_own v begins first (ap max_words_kept.seen at) (budget-spelled (value_of max_words_option word) v is)
-says_max_words (TakesStats v begins first is at) = says_other stats_is max_words_is refl begins at refl
-says_max_words (TakesMarks v begins first is at) = says_other marks_is max_words_is refl begins at refl
+says_max_words (TakesStats v begins first is at) = says_other stats_option refl begins at refl
+says_max_words (TakesMarks v begins first is at) = says_other marks_option refl begins at refl
 
 -- a word that adds an option says a value to `stats=` or nothing
 says_stats : {given next : Given} {word : List ℕ} → AddsOption given next word → Says stats_kept given next word
-says_stats (TakesCategories v begins first is at) = says_other categories_is stats_is refl begins at refl
-says_stats (TakesWalk v begins at) = says_other walk_is stats_is refl begins at refl
-says_stats (TakesWords v begins first is at) = says_other max_words_is stats_is refl begins at refl
+says_stats (TakesCategories v begins first is at) = says_other categories_option refl begins at refl
+says_stats (TakesWalk v begins at) = says_other walk_option refl begins at refl
+says_stats (TakesWords v begins first is at) = says_other max_words_option refl begins at refl
 says_stats {word = word} (TakesStats v begins first is at) =
     says_own v begins first (ap stats_kept.seen at) (choice-spelled (value_of stats_option word) v is)
-says_stats (TakesMarks v begins first is at) = says_other marks_is stats_is refl begins at refl
+says_stats (TakesMarks v begins first is at) = says_other marks_option refl begins at refl
 
 -- a word that adds an option says a value to `marks=` or nothing
 says_marks : {given next : Given} {word : List ℕ} → AddsOption given next word → Says marks_kept given next word
-says_marks (TakesCategories v begins first is at) = says_other categories_is marks_is refl begins at refl
-says_marks (TakesWalk v begins at) = says_other walk_is marks_is refl begins at refl
-says_marks (TakesWords v begins first is at) = says_other max_words_is marks_is refl begins at refl
-says_marks (TakesStats v begins first is at) = says_other stats_is marks_is refl begins at refl
+says_marks (TakesCategories v begins first is at) = says_other categories_option refl begins at refl
+says_marks (TakesWalk v begins at) = says_other walk_option refl begins at refl
+says_marks (TakesWords v begins first is at) = says_other max_words_option refl begins at refl
+says_marks (TakesStats v begins first is at) = says_other stats_option refl begins at refl
 says_marks {word = word} (TakesMarks v begins first is at) =
     says_own v begins first (ap marks_kept.seen at) (choice-spelled (value_of marks_option word) v is)
 

@@ -9,6 +9,7 @@ mod Served
 mod Agreeing
 mod BenchEnds
 mod BenchTold
+mod OptionNames
 mod GivenOptions
 mod ReadOn
 mod Reported
