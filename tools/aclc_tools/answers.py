@@ -6,12 +6,11 @@ apart.
 """
 import mmap
 import os
-import shutil
 import subprocess
 import tempfile
 from pathlib import Path
 
-from aclc_tools import any_list, capture, keys
+from aclc_tools import any_list, capture, keys, packed
 from aclc_tools.program import leave, note, program
 
 MOST_CATEGORIES = 16
@@ -24,10 +23,10 @@ MOST_TIME = 1 << 63
 
 
 class Refusal(Exception):
-    """What the program said as it refused something, and its exit code."""
+    """What the program said as it refused something, its exit code, and a sentence on a faulty capture, or None."""
 
-    def __init__(self, code, message):
-        self.code = code
+    def __init__(self, code, message, sentence=None):
+        self.code, self.sentence = code, sentence
         self.message = message.strip() or f"{program()} ended with exit code {code} and no message"
         super().__init__(self.message)
 
@@ -41,7 +40,7 @@ class Room:
 
     def __init__(self):
         self.folder = tempfile.TemporaryDirectory(prefix="aclc-")
-        self.count = 0
+        self.count, self.captures = 0, {}
 
     def name(self, suffix):
         """A name for a file that isn't there yet."""
@@ -55,17 +54,26 @@ class Room:
         return path
 
     def of_capture(self, name):
-        """A name for a capture that may be read more than once."""
+        """A name for a capture that may be read more than once: of the file itself, or of what a pipe or a compressed
+        file has."""
+        if name not in self.captures:
+            try:
+                self.captures[name] = self.taken("/dev/stdin" if name == "-" else name)
+            except packed.Failed as failed:
+                raise Refusal(OF_CAPTURE[1], str(failed)) from None
+            except (OSError, ValueError) as error:
+                raise Refusal(OF_CAPTURE[1], getattr(error, "strerror", None) or str(error)) from None
+        return self.captures[name]
+
+    def taken(self, source):
+        """A link to a capture that is a file and isn't compressed, or a copy of any other one."""
         path = self.name(".pcap")
-        source = "/dev/stdin" if name == "-" else name
-        try:
-            if os.path.isfile(source):
+        with open(source, "rb") as file:
+            if os.path.isfile(source) and not packed.tool_for(file.peek(packed.LOOKED_AT)):
                 path.symlink_to(os.path.abspath(source))
             else:
-                with open(source, "rb") as pipe, open(path, "wb") as copy:
-                    shutil.copyfileobj(pipe, copy)
-        except (OSError, ValueError) as error:
-            raise Refusal(7, f"{getattr(error, 'strerror', None) or error}") from None
+                with open(path, "wb") as target:
+                    packed.copy(file, target)
         return path
 
 
@@ -163,11 +171,25 @@ def classified(listed, copy, packets, categories, given):
                 known[answer] = kind, tuple(None if it == "-" else int(it) for it in words)
             yield known[answer]
     except Refusal as refusal:
-        raise Refusal(refusal.code,
-                      f"{listed.name}: {refusal.message}" if refusal.is_of_list() else refusal.message) from None
+        if refusal.is_of_list():
+            raise Refusal(refusal.code, f"{listed.name}: {refusal.message}") from None
+        raise Refusal(refusal.code, refusal.message, sentence_of(packets, refusal.message)) from None
     if not last or last.split()[1] != str(count):
         raise Refusal(0, f"{listed.name}: the program printed {count} lines, and last {last or 'no count of them'}")
     yield "packets", last
+
+
+def sentence_of(path, message):
+    """What to do about the record of a capture that the program refuses, if this tool's reader finds the same fault."""
+    try:
+        for _ in capture.records_with_times(content_of(path)):
+            pass
+    except OSError:
+        return None
+    except capture.Fault as fault:
+        is_the_same = message.endswith(f"aclc: capture: record {fault.record}: {fault.kind}")
+        return fault.sentence if is_the_same else None
+    return None
 
 
 def dated(record, number, what):
@@ -214,4 +236,6 @@ def content_of(path):
 
 def told(refusal, name):
     """What is told of a refusal at a capture of this name."""
-    return refusal.message if refusal.is_of_list() else f"{name}: {refusal.message}"
+    if refusal.is_of_list():
+        return refusal.message
+    return f"{name}: {refusal.message}" + (f"\n    {refusal.sentence}" if refusal.sentence else "")

@@ -5,8 +5,10 @@ Packets of one kind that the same entries decide have one outcome. Outcomes coun
 packets are held with their keys as are asked for, and after them some of each outcome that has fewer.
 """
 import array
+import os
 import sys
 from collections import defaultdict
+from pathlib import Path
 
 from aclc_tools import answers, blocks, capture, confirmed, keys
 from aclc_tools.program import leave, note
@@ -88,7 +90,8 @@ class Held:
     def of_capture(self, name, told):
         """Takes the packets of a capture; `told` gets what is said of the capture, also where a refusal ends it."""
         path = self.room.of_capture(name)
-        told["checksum"], told["bytes"] = checksum_of(path)
+        # Of a compressed file as it is, and of a pipe what was read of it, unpacked.
+        told["checksum"], told["bytes"] = checksum_of(Path(name) if os.path.isfile(name) else path)
         count = answers.count_of(self.categories)
         runs = [answers.classified(listed, copy, path, count, self.given)
                 for listed, copy in zip(self.lists, self.copies)]
@@ -104,9 +107,6 @@ class Held:
                     break
                 self.take(name, (own, number), found, self.record_of(name, number, reader))
                 told["packets"] = number
-        except answers.Refusal:
-            told["sentence"] = self.sentence_of(reader)
-            raise
         finally:
             self.confirmed.ask()
 
@@ -124,14 +124,6 @@ class Held:
         if record is None:
             return leave(f"{name}: record {number}: the program reads it, and this tool sees no more records", 2)
         return answers.dated(record, number, "a report")
-
-    def sentence_of(self, reader):
-        """What to do about the record that the program refuses, and its fault as this tool sees it."""
-        try:
-            next(reader, None)
-        except capture.Fault as fault:
-            return {"record": fault.record, "kind": fault.kind, "sentence": fault.sentence}
-        return None
 
     def take(self, name, at, found, record):
         """Counts a packet, and holds it if there is room."""

@@ -40,10 +40,6 @@ def of_rules(role, name, content, message, code):
     return told
 
 
-def of_capture(name, refusal, sentence):
-    """A capture that the program refuses; the sentence is that of this tool's reader, if both see the same fault."""
-    told = refused("capture", name, refusal.message, refusal.code)
-    said = MESSAGE.search(refusal.message)
-    if sentence and said and (str(sentence["record"]), sentence["kind"]) == said.groups():
-        told["sentence"] = sentence["sentence"]
-    return told
+def of_capture(name, refusal):
+    """A capture that is refused, with a sentence on what to do, if there is one."""
+    return {**refused("capture", name, refusal.message, refusal.code), "sentence": refusal.sentence}

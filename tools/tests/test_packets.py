@@ -269,7 +269,8 @@ class Changes(unittest.TestCase):
     def test_a_refused_capture_leaves_the_others(self):
         code, lines, said = tool("changes", OFFICE, EDITED, OFFICE, CAPTURE)
         self.assertEqual((code, lines.count("\n  old")), (2, 1))
-        self.assertEqual(said, f"changes: {OFFICE}: aclc: capture: record 0: magic\n")
+        self.assertEqual(said, f"changes: {OFFICE}: aclc: capture: record 0: magic\n"
+                               "    It is a rule file: the rule file is named first, and the capture second.\n")
 
     def test_a_capture_may_be_a_pipe(self):
         with open(CAPTURE, "rb") as pipe:
