@@ -299,6 +299,9 @@ class Hits(unittest.TestCase):
         told = json.loads(tool("hits", "--json", *names)[1])
         rows = list(csv.DictReader(tool("hits", "--csv", *names)[1].splitlines()))
         self.assertEqual([rule["hits"] for rule in told["rules"]], [1, 1, 1, 1, 1, 1])
+        sums = program.run("classify", *names, path=program.built_program()).lines.decode().split("\n")[-2].split()
+        self.assertEqual([str(told["packets"]), *(str(told["kinds"][it]) for it in ("ip4", "ip6", "other", "short"))],
+                         [sums[1], *sums[3::2]])
         self.assertEqual(told, json.loads(tool("hits", "--json", names[0], EXAMPLES / "mixed.pcapng")[1]))
         self.assertEqual([int(row["hits"]) for row in rows], [1, 1, 1, 1, 1, 1, told["unmatched"]])
         self.assertEqual([row["line"] for row in rows], ["2", "3", "4", "5", "7", "8", ""])
@@ -326,21 +329,36 @@ class Hits(unittest.TestCase):
                                                                     b"".join(drawn.record(at, part * 1000, frame)
                                                                              for at, part in times))]
         for name in names:
-            told = json.loads(tool("hits", "--json", "--over", "60s", OFFICE, name)[1])
+            told = json.loads(tool("hits", "--json", "--utc", "--over", "60s", OFFICE, name)[1])
             self.assertEqual([(it["begins"], it["rules"][0]["hits"]) for it in told["intervals"]],
-                             [("1970-01-01 00:16:40.000", 3), ("1970-01-01 00:17:40.000", 1),
-                              ("1970-01-01 00:19:40.000", 1)])
-        text = tool("hits", "--over", "60s", OFFICE, names[0])[1]
-        self.assertIn("1970-01-01 00:17:40.000        1  2: 1\n", text)
+                             [("1970-01-01T00:16:40.000+00:00", 3), ("1970-01-01T00:17:40.000+00:00", 1),
+                              ("1970-01-01T00:19:40.000+00:00", 1)])
+        text = tool("hits", "--utc", "--over", "60s", OFFICE, names[0])[1]
+        self.assertIn("1970-01-01 00:17:40.000+00:00        1  2: 1\n", text)
+
+    def test_times_have_their_zone(self):
+        """Two in the east, with and without half an hour, one in the west, one whose offset has seconds, and --utc."""
+        frame = keys.frame(packet_words.typed("udp 192.168.1.5:1 -> 192.168.2.31:1234"))
+        sent = self.room.write(".pcap", capture.write([]) + drawn.record(1_700_000_000, 250_000, frame))
+        for zone, words, told in (("UTC", (), "2023-11-14T22:13:20.250+00:00"), ("XXX-1", (), "2023-11-14T23:13:20.250+01:00"),
+                                  ("XXX-5:30", (), "2023-11-15T03:43:20.250+05:30"),
+                                  ("XXX8", (), "2023-11-14T14:13:20.250-08:00"),
+                                  ("XXX-0:19:32", (), "2023-11-14T22:32:52.250+00:19:32"),
+                                  ("XXX8", ("--utc",), "2023-11-14T22:13:20.250+00:00")):
+            run = [tool("hits", "--over", "60s", *words, *form, OFFICE, sent, env={"TZ": zone})[1]
+                   for form in (["--json"], ["--csv"], [])]
+            self.assertEqual(json.loads(run[0])["intervals"][0]["begins"], told)
+            self.assertEqual(next(csv.DictReader(run[1].splitlines()))["begins"], told)
+            self.assertIn(told.replace("T", " ") + " " * (31 - len(told)), run[2])
 
     def test_intervals_begin_with_the_first_packet_of_any_kind(self):
         frame = keys.frame(packet_words.typed("udp 192.168.1.5:1 -> 192.168.2.31:1234"))
         other = bytes(12) + b"\x08\x06" + bytes(28)
         sent = self.room.write(".pcap", capture.write([]) + b"".join(
             drawn.record(at, 0, it) for at, it in ((1000, other), (1030, frame), (1070, frame), (1071, other))))
-        code, told, _ = tool("hits", "--json", "--over", "60s", OFFICE, sent)
+        code, told, _ = tool("hits", "--json", "--utc", "--over", "60s", OFFICE, sent)
         self.assertEqual((code, [(it["begins"], it["rules"][0]["hits"]) for it in json.loads(told)["intervals"]]),
-                         (0, [("1970-01-01 00:16:40.000", 1), ("1970-01-01 00:17:40.000", 1)]))
+                         (0, [("1970-01-01T00:16:40.000+00:00", 1), ("1970-01-01T00:17:40.000+00:00", 1)]))
 
     def test_intervals_look_at_the_lines_that_decide_alone(self):
         """A list of many lines and many intervals would else take their product."""
