@@ -92,10 +92,12 @@ def numbered(rules):
 
 
 def started(*words):
-    """The program, begun with these words, and the file that it tells its messages to."""
+    """The program, begun with these words, and the file that it tells its messages to. A signal of the terminal comes to
+    the tool alone, which ends the program or lets it end."""
     said = tempfile.TemporaryFile()
     try:
-        return subprocess.Popen([program(), *map(str, words)], stdout=subprocess.PIPE, stderr=said), said
+        return subprocess.Popen([program(), *map(str, words)], stdout=subprocess.PIPE, stderr=said,
+                                start_new_session=True), said
     except OSError as error:
         return leave(f"{program()}: {error.strerror}: ACLC names no program", 2)
 
@@ -112,7 +114,7 @@ def printed(*words):
         try:
             for line in process.stdout:
                 yield line
-        except GeneratorExit:
+        except BaseException:
             process.kill()
             raise
         code = process.wait()

@@ -41,14 +41,16 @@ def print_json(told):
     print()
 
 
-def print_csv(names, rows, left_out=()):
+def print_csv(names, rows, left_out=(), is_live=False):
     """Rows, each a dictionary, with a line of their names before them. If lines were left out, four columns more tell
-    each of them, in rows of their own."""
-    rows, more = list(rows), [{f"left_out_{name}": value for name, value in it.items()} for it in left_out]
+    each of them, in rows of their own. Nothing is printed before all rows are there, unless they are live."""
+    rows = rows if is_live else list(rows)
+    more = [{f"left_out_{name}": value for name, value in it.items()} for it in left_out]
     columns = [f"left_out_{name}" for name in ("file", "line", "text", "why")] if more else []
     writer = csv.DictWriter(sys.stdout, [*names, *columns], lineterminator="\n", extrasaction="ignore")
     writer.writeheader()
-    writer.writerows([*rows, *more])
+    for part in (rows, more):
+        writer.writerows(part)
 
 
 def end_of(main, code):

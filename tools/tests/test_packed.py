@@ -11,11 +11,12 @@ from aclc_tools import packed
 from tool import BUILT, EXAMPLES, tool
 
 OFFICE, EDITED, CAPTURE = EXAMPLES / "office.rules", EXAMPLES / "edited.rules", EXAMPLES / "office.pcap"
-# How each tool compresses, and what it says of a file that ends too early.
-TOOLS = {"gzip": ("unexpected end of file", "gz"), "zstd": ("premature end", "zst"), "lz4": ("Unfinished stream", "lz4")}
+# What each tool says of a file that ends too early.
+SAID = {"gzip": "unexpected end of file", "zstd": "premature end", "lz4": "Unfinished stream"}
 # Each command with its words before and after a capture, and what it tells of office.pcap.
 COMMANDS = [("hits", [OFFICE], "", "packets 3 ip4 3"), ("explain", [OFFICE], "#2", "decides  line 3"),
-            ("changes", [OFFICE, EDITED], "", "1 of 3 packets get another answer"), ("check", [OFFICE], "", ": 3 records are read")]
+            ("changes", [OFFICE, EDITED], "", "1 of 3 packets get another answer"),
+            ("check", [OFFICE], "", ": 3 records are read")]
 LINK = "link type is 105 (802.11); read are Ethernet, raw IP, IPv4, IPv6 and Linux cooked captures."
 
 
@@ -57,7 +58,7 @@ class Compressed(Folder):
                 code, lines, said = tool(command, *words, f"{cut}{after}")
                 self.assertEqual((code, "3" in lines.replace("3 rules", "").split()), (2, False))
                 self.assertTrue(said.startswith(f"{command}: {cut}: {name} can't unpack it: "), said)
-                self.assertIn(TOOLS[name][0], said)
+                self.assertIn(SAID[name], said)
 
     def test_gzip(self):
         self.check_with("gzip")
@@ -114,7 +115,8 @@ class Several(Folder):
     def test_counts_are_of_all(self):
         self.need("gzip")
         again = self.write("again.gz", compressed("gzip", CAPTURE.read_bytes()))
-        told = [json.loads(tool("hits", "--json", OFFICE, *names)[1]) for names in ([CAPTURE], [CAPTURE, again, CAPTURE])]
+        named = [CAPTURE], [CAPTURE, again, CAPTURE]
+        told = [json.loads(tool("hits", "--json", OFFICE, *names)[1]) for names in named]
         self.assertEqual([3 * row["hits"] for row in told[0]["rules"]], [row["hits"] for row in told[1]["rules"]])
         self.assertEqual(3 * told[0]["unmatched"], told[1]["unmatched"])
         code, lines, _ = tool("check", OFFICE, CAPTURE, again)

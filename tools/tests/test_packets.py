@@ -340,7 +340,8 @@ class Hits(unittest.TestCase):
         """Two in the east, with and without half an hour, one in the west, one whose offset has seconds, and --utc."""
         frame = keys.frame(packet_words.typed("udp 192.168.1.5:1 -> 192.168.2.31:1234"))
         sent = self.room.write(".pcap", capture.write([]) + drawn.record(1_700_000_000, 250_000, frame))
-        for zone, words, told in (("UTC", (), "2023-11-14T22:13:20.250+00:00"), ("XXX-1", (), "2023-11-14T23:13:20.250+01:00"),
+        for zone, words, told in (("UTC", (), "2023-11-14T22:13:20.250+00:00"),
+                                  ("XXX-1", (), "2023-11-14T23:13:20.250+01:00"),
                                   ("XXX-5:30", (), "2023-11-15T03:43:20.250+05:30"),
                                   ("XXX8", (), "2023-11-14T14:13:20.250-08:00"),
                                   ("XXX-0:19:32", (), "2023-11-14T22:32:52.250+00:19:32"),
