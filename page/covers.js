@@ -1,89 +1,11 @@
 // SPDX-License-Identifier: BSD-3-Clause
 // Which earlier rules cover one that can never decide: the fewest that are found. It is the page's own reading, after
 // tools/aclc_tools/covers.py. Rules near others are found by their networks and ports, without a look at each.
+import { both, leftBy, meets, ofPackets, oneLike, pieceOf, TooMany } from './pieces.js';
 
-const MOST_PIECES = 20000;
 const MOST_PAIRS = 60;
 const MOST_CATEGORIES = 16;
 const PORT_BITS = 16;
-const PORTED = [6, 17, 132].reduce((bits, it) => bits | (1n << BigInt(it)), 0n);
-
-class TooMany extends Error {}
-
-const protocolSets = new Map();
-
-// A bit for each protocol that agrees with a value in the bits of a mask.
-function protocolsOf(value, mask) {
-  const name = `${value}/${mask}`;
-  if (!protocolSets.has(name)) {
-    let bits = 0n;
-    for (let it = 0; it < 256; it++) if (((it ^ value) & mask) === 0) bits |= 1n << BigInt(it);
-    protocolSets.set(name, bits);
-  }
-  return protocolSets.get(name);
-}
-
-// What a rule matches: a bit for each protocol, and an interval of each side. Addresses of IPv6 are BigInts, all other
-// numbers are Numbers.
-function pieceOf({ family, protocol: [value, mask], sides }) {
-  const numberOf = (digits, at) => (family === 6 && at < 2 ? BigInt(`0x${digits}`) : parseInt(digits, 16));
-  return { protocols: protocolsOf(value, mask), sides: sides.map((side, at) => side.map((it) => numberOf(it, at))) };
-}
-
-// The pieces of the keys that packets have: those of protocols without ports have ports 0.
-function ofPackets({ protocols, sides }) {
-  const found = [{ protocols: protocols & PORTED, sides }];
-  if (sides[2][0] === 0 && sides[3][0] === 0) {
-    found.push({ protocols: protocols & ~PORTED, sides: [sides[0], sides[1], [0, 0], [0, 0]] });
-  }
-  return found.filter((it) => it.protocols);
-}
-
-const greater = (one, other) => (one > other ? one : other);
-const less = (one, other) => (one < other ? one : other);
-const oneLike = (number) => (typeof number === 'bigint' ? 1n : 1);
-
-// Whether two pieces have a key in common.
-function meets(one, other) {
-  for (let at = 0; at < 4; at++) {
-    const [side, its] = [one.sides[at], other.sides[at]];
-    if (side[0] > its[1] || its[0] > side[1]) return false;
-  }
-  return (one.protocols & other.protocols) !== 0n;
-}
-
-// What two pieces have in common, which is something.
-const both = (one, other) => ({ protocols: one.protocols & other.protocols,
-  sides: one.sides.map(([low, high], at) => [greater(low, other.sides[at][0]), less(high, other.sides[at][1])]) });
-
-// What is left of a piece without another one.
-function without(piece, other) {
-  if (!meets(piece, other)) return [piece];
-  const found = [];
-  const sides = [...piece.sides];
-  sides.forEach(([low, high], at) => {
-    const [first, last] = other.sides[at];
-    const cut = (side) => {
-      found.push({ protocols: piece.protocols, sides: sides.map((it, place) => (place === at ? side : it)) });
-    };
-    if (low < first) cut([low, first - oneLike(first)]);
-    if (last < high) cut([last + oneLike(last), high]);
-    sides[at] = [greater(low, first), less(high, last)];
-  });
-  const rest = piece.protocols & ~other.protocols;
-  return rest ? [...found, { protocols: rest, sides }] : found;
-}
-
-// What others leave of some pieces.
-function leftBy(pieces, others) {
-  let left = pieces;
-  for (const other of others) {
-    if (!left.length) break;
-    left = left.flatMap((it) => without(it, other));
-    if (left.length > MOST_PIECES) throw new TooMany();
-  }
-  return left;
-}
 
 // The first place in a sorted array at which a number isn't below a limit.
 function firstFrom(sorted, limit) {
