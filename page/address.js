@@ -49,5 +49,6 @@ export function restore(page, address) {
   const packet = placeOf(words, 'packet', report.packets?.held ?? 0);
   if (rule !== null) page.openRule(rule);
   else if (packet !== null) page.openPacket(packet);
+  else if (words.has('lines') && report.old && report.list) page.openLines(words.get('lines'));
   return true;
 }

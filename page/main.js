@@ -13,6 +13,7 @@ import { twoListsView } from './two_lists_view.js';
 import { refusalsView, remarksOf } from './refusals_view.js';
 import { aboutView } from './about_view.js';
 import { packetDetails, ruleDetails } from './side.js';
+import { pairDetails } from './differences_view.js';
 import { filesView, startLive } from './live.js';
 import { startPrinting } from './print.js';
 import { addressOf, restore } from './address.js';
@@ -208,6 +209,15 @@ class Page {
   openPacket(at) {
     this.open(packetDetails(this, at));
     this.opened = { packet: at };
+    this.remember(true);
+  }
+
+  // Opens a pair of lines of two lists by its name, if there is one.
+  openLines(name) {
+    const details = pairDetails(this, name);
+    if (!details) return;
+    this.open(details);
+    this.opened = { lines: name };
     this.remember(true);
   }
 

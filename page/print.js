@@ -6,11 +6,13 @@ import { KINDS } from './data.js';
 import { pairsOf } from './counts.js';
 import { shownBy } from './filters.js';
 import { answerOf } from './sentence.js';
+import { differencesOf, saidOf, textsOf } from './differences_view.js';
 import { aboutView } from './about_view.js';
 import { refusalsView, remarksOf } from './refusals_view.js';
 import { belowText, numberText } from './rules_view.js';
 
 const MOST_PACKETS = 500;
+const MOST_PAIRS = 500;
 
 // A table with a head line and names of columns on each page.
 function tableOf(page, title, names, rows) {
@@ -57,6 +59,17 @@ function packetsOf(page) {
   return rows.length ? [tableOf(page, which, names, rows)] : [];
 }
 
+// The pairs of lines that answer packets differently, and what is said of them.
+function pairsTable(page) {
+  const found = differencesOf(page);
+  const { rows } = found;
+  const names = ['old line', 'old answer', 'new line', 'new answer', 'for which packets',
+    ...(page.report.packets ? ['packets', 'first'] : [])];
+  const first = rows.slice(0, MOST_PAIRS);
+  const title = `pairs of lines: ${first.length < rows.length ? `the first ${count(first.length)} of ` : ''}${count(rows.length)}`;
+  return [make('p', {}, saidOf(page, found)), rows.length ? tableOf(page, title, names, first.map((it) => textsOf(page, it))) : null];
+}
+
 function listsOf(page) {
   const { old, list, compare } = page.report;
   if (!old) return [];
@@ -68,7 +81,7 @@ function listsOf(page) {
   const pairs = pairsOf(page.report).map((it) => [count(it.total), text(old, it.old), text(list, it.now)]);
   const only = [[old, compare?.onlyOld ?? [], 'old'], [list, compare?.onlyNew ?? [], 'new']].flatMap(([its, places, which]) => (places.length
     ? [tableOf(page, `only in the ${which} list, ${its.name}`, [its.what, 'rule'], places.map((it) => [numberText(its.entries[it]), its.entries[it].text]))] : []));
-  return [...said, pairs.length ? tableOf(page, 'packets that get another answer', ['packets', 'old line', 'new line'], pairs) : null, ...only];
+  return [...said, ...pairsTable(page), pairs.length ? tableOf(page, 'packets that get another answer', ['packets', 'old line', 'new line'], pairs) : null, ...only];
 }
 
 // All that is printed of a report.

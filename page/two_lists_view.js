@@ -1,9 +1,10 @@
 // SPDX-License-Identifier: BSD-3-Clause
-// Two lists: whether they decide all packets alike, which packets of the captures get another answer, and which lines
-// only one of them has.
+// Two lists: whether they decide all packets alike, which pairs of lines don't, which packets of the captures get
+// another answer, and which lines only one of them has.
 import { count, isOfPacket, keyText, make, many } from './text.js';
 import { pairsOf } from './counts.js';
 import { Table, widthOf } from './table.js';
+import { differencesOf, differencesSection } from './differences_view.js';
 
 function sideOf(report, list, place, what) {
   const entry = place < 0 ? null : list.entries[place];
@@ -71,13 +72,34 @@ function onlyIn(list, places, which) {
   return [table.element];
 }
 
+// Why the comparison isn't complete, as the first sentence of the view; nothing where it is.
+function incompleteText({ compare }, found) {
+  if (!compare) return 'The program couldn’t compare the two lists over all packets: nothing here is confirmed by it.';
+  if (compare.notCompared.length) return 'The comparison isn’t complete: a part of all packets couldn’t be compared.';
+  const isOpen = found.open || compare.families.some((it) => it.open);
+  if (isOpen) return 'The comparison isn’t complete: lines were left out that may decide packets.';
+  return found.isCut ? 'The pairs of lines below may not be all: the search for them ended at its limit.' : '';
+}
+
+// What is known of two lists in a sentence.
+function answerText({ compare, list, old }) {
+  const families = compare?.families ?? [];
+  const [name, other] = [list.name, `the old list ${old.name}`];
+  if (families.some((it) => it.same === false)) return `${name} answers some packets otherwise than ${other}.`;
+  if (families.length && families.every((it) => it.same)) return `${name} answers every packet that there is as ${other} does.`;
+  return `Whether ${name} answers each packet as ${other} does isn’t known.`;
+}
+
 export function twoListsView(page) {
   const { report } = page;
   const { compare } = report;
-  if (!compare) return [make('p', { class: 'lead' }, 'The two lists couldn’t be compared over all packets.'), ...changes(page)];
-  return [make('p', { class: 'lead' }, `${report.list.name} beside the old list ${report.old.name}, over all packets that there are.`),
-    make('div', { class: 'cards' }, compare.families.map((it) => familyOf(report, it))),
-    compare.remark ? make('p', { class: 'told' }, `${compare.remark[0].toUpperCase()}${compare.remark.slice(1)}.`) : null,
-    compare.notCompared.map((it) => make('p', { class: 'told' }, `Not compared: ${it}`)), ...changes(page),
-    make('h2', {}, 'Lines that only one list has'), ...onlyIn(report.old, compare.onlyOld, 'old'), ...onlyIn(report.list, compare.onlyNew, 'new')];
+  const lead = `${incompleteText(report, differencesOf(page))} ${answerText(report)}`.trim();
+  const said = [make('p', { class: 'lead' }, lead)];
+  if (!compare) return [...said, ...differencesSection(page), ...changes(page)];
+  const { remark } = compare;
+  return [...said, make('div', { class: 'cards' }, compare.families.map((it) => familyOf(report, it))),
+    remark ? make('p', { class: 'told' }, `${remark[0].toUpperCase()}${remark.slice(1)}.`) : null,
+    compare.notCompared.map((it) => make('p', { class: 'told' }, `Not compared: ${it}`)),
+    ...differencesSection(page), ...changes(page), make('h2', {}, 'Lines that only one list has'),
+    ...onlyIn(report.old, compare.onlyOld, 'old'), ...onlyIn(report.list, compare.onlyNew, 'new')];
 }

@@ -2,6 +2,7 @@
 """What the tests of the page share: files, pages that tools/report makes of them, and what a user sees and does."""
 import http.server
 import tempfile
+import threading
 from pathlib import Path
 
 from aclc_tools.program import TOP
@@ -40,6 +41,16 @@ class Files:
 
 
 FILES = Files()
+
+
+class PageFolder(http.server.SimpleHTTPRequestHandler):
+    """Serves the page's folder, and says nothing."""
+
+    def __init__(self, *words):
+        super().__init__(*words, directory=str(TOP / "page"))
+
+    def log_message(self, *_):
+        pass
 
 
 class Shown:
@@ -88,12 +99,11 @@ class Shown:
         self.browser.evaluate(f"(() => {{ const it = document.getElementById('{identifier}'); it.value = {text!r}; "
                               "it.dispatchEvent(new Event(it.tagName === 'SELECT' ? 'change' : 'input')); })()")
 
-
-class PageFolder(http.server.SimpleHTTPRequestHandler):
-    """Serves the page's folder, and says nothing."""
-
-    def __init__(self, *words):
-        super().__init__(*words, directory=str(TOP / "page"))
-
-    def log_message(self, *_):
-        pass
+    def serve(self):
+        """Opens the page's files as a server has them, whose modules may be called; its address."""
+        server = http.server.ThreadingHTTPServer(("127.0.0.1", 0), PageFolder)
+        threading.Thread(target=server.serve_forever, daemon=True).start()
+        self.addCleanup(server.server_close)
+        self.addCleanup(server.shutdown)
+        self.browser.open(f"http://127.0.0.1:{server.server_port}/index.html")
+        return server

@@ -5,17 +5,15 @@ Each test opens a page that tools/report made, as a user opens it: from a disk. 
 no request was made.
 """
 import calendar
-import http.server
 import re
 import struct
-import threading
 import time
 import unittest
 
 import browsers
 import made
 from aclc_tools import capture, made_by
-from shown import DATA, EDITED, EXAMPLES, FILES, LEAD, OFFICE, PICTURES, SIDE, TEXTS, VIEW, PageFolder, Shown
+from shown import DATA, EDITED, EXAMPLES, FILES, LEAD, OFFICE, PICTURES, SIDE, TEXTS, VIEW, Shown
 
 
 def nanoseconds(text):
@@ -274,15 +272,6 @@ class Views(Looks):
         text = self.tab("packets")
         self.assertIn("There are 2,000 packets, and all are counted.", text)
         self.assertIn("2,000 packets in", self.tab("time"))
-
-    def serve(self):
-        """Opens the page's files as a server has them, whose modules may be called; its address."""
-        server = http.server.ThreadingHTTPServer(("127.0.0.1", 0), PageFolder)
-        threading.Thread(target=server.serve_forever, daemon=True).start()
-        self.addCleanup(server.server_close)
-        self.addCleanup(server.shutdown)
-        self.browser.open(f"http://127.0.0.1:{server.server_port}/index.html")
-        return server
 
     def test_what_covers_a_rule_among_thousands_is_found_soon(self):
         """By a look at each rule and pair it takes minutes."""
