@@ -20,8 +20,19 @@ WAYS = {"INPUT": ("PREROUTING", "INPUT"), "FORWARD": ("PREROUTING", "FORWARD", "
         "PREROUTING": ("PREROUTING", "INPUT", "FORWARD", "POSTROUTING"),
         "POSTROUTING": ("PREROUTING", "FORWARD", "OUTPUT", "POSTROUTING")}
 COUNTERS = r"\[\d+:\d+\]"
+# The words by which a comment names legacy iptables, which has tables of its own.
+LEGACY = {"iptables-legacy", "ip6tables-legacy"}
 Declared = namedtuple("Declared", "number text policy lines")
 Saved = namedtuple("Saved", "number text words")
+
+
+def hides_tables(line):
+    """Whether a comment tells of tables that the list lacks, or of which it lacks chains or rules.
+
+    iptables-nft-save prints one where nft made something in a table. It warns of tables of legacy iptables on standard
+    error, whose text may come in the midst of a line.
+    """
+    return line.startswith("# Table `") or not LEGACY.isdisjoint(line[1:].split())
 
 
 class Tables:
@@ -31,13 +42,20 @@ class Tables:
         self.tables, self.open = {}, None
         for number, line in enumerate(lines, 1):
             line = line[:-1] if line.endswith("\r") else line
-            if line and not line.startswith("#"):
-                try:
-                    self.take(number, line)
-                except CantSay as said:
-                    raise CantSay(said.reason, number, line) from None
+            try:
+                self.take_any(number, line)
+            except CantSay as said:
+                raise CantSay(said.reason, number, line) from None
         if self.open is not None:
             raise CantSay(f"the table {self.open} has no COMMIT after it, so that its end may be missing", len(lines))
+
+    def take_any(self, number, line):
+        """A line, which may be empty or a comment."""
+        if line and not line.startswith("#"):
+            self.take(number, line)
+        elif hides_tables(line):
+            raise CantSay("tables are missing in this list, or a part of them, and may drop packets: nft -j list ruleset "
+                          "and iptables-legacy-save show them")
 
     def take(self, number, line):
         """A line that isn't a comment."""

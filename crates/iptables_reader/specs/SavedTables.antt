@@ -1,8 +1,8 @@
 -- The tables of a save, and the chains of each that packets come to by themselves (iptables(8),
 -- "TABLES"). Tables have such chains at the hooks of netfilter, where packets pass all of them.
 use Rattle.std.specs.Prelude.{ℕ, ◌==◌, Bool, true, false, not, ◌||◌, is_some, if◌then◌else◌}
-use Rattle.std.specs.Prelude.{codes, List, [], ◌∷◌, Option, Some, None}
-use Rattle.std.specs.List.{list_any}
+use Rattle.std.specs.Prelude.{codes, List, [], ◌∷◌, Option, Some, None, nat_eq}
+use Rattle.std.specs.List.{list_any, starts_with}
 use Rattle.std.specs.Str.{bytes_eq}
 use Rattle.text_scan.specs.Parts.{lines_of, words_of}
 use Rattle.list_packets.specs.Names.{named}
@@ -70,6 +70,26 @@ drops None = false
 -- so does a chain whose policy has the word
 abbrev pub is_drop : List ℕ → Bool
 is_drop word = bytes_eq word (codes "DROP")
+
+-- ---- tables that a save doesn't show
+
+-- a word names legacy iptables, which has tables of its own
+abbrev pub is_legacy : List ℕ → Bool
+is_legacy word =
+    bytes_eq word (codes "iptables-legacy") || bytes_eq word (codes "ip6tables-legacy")
+
+-- one of some words does
+abbrev pub has_legacy : List (List ℕ) → Bool
+has_legacy words = list_any is_legacy words
+
+-- A comment tells that the save lacks tables, or some of their chains; 35 is `#`. iptables-nft-save
+-- prints one that begins with "# Table `" where rules or chains of nft stand in a table, and warns
+-- of those of legacy iptables on standard error, which may come in the midst of a line. Each table
+-- has chains on the way of all packets, so whichever it is may drop them.
+abbrev pub hides_tables : List ℕ → Bool
+hides_tables [] = false
+hides_tables (c ∷ cs) =
+    if c == 35 then starts_with nat_eq cs (codes " Table `") || has_legacy (words_of cs) else false
 
 -- ---- what a list has
 

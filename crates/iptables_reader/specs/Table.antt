@@ -1,7 +1,7 @@
 -- A list of iptables-save or ip6tables-save, line by line: tables, each with its chains, their
 -- rules, and COMMIT (iptables-save(8), iptables-restore(8)). Empty lines, and lines that begin with
--- `#`, say nothing. The chains are those of the table `filter`; what other tables may drop of the
--- packets of one of its chains is a fault.
+-- `#`, say nothing, unless they tell of tables that the list lacks. The chains are those of the
+-- table `filter`; what other tables may drop of the packets of one of its chains is a fault.
 use Rattle.std.specs.Prelude.{ℕ, ◌+◌, ◌==◌, Bool, true, false, not, ◌&&◌, ◌||◌, bit_and, bit_or, nat_lt}
 use Rattle.std.specs.Prelude.{is_some, slice_set}
 use Rattle.std.specs.Prelude.{drop, slice_index_or, if◌then◌else◌, codes, List, [], ◌∷◌, ◌++◌, length}
@@ -37,7 +37,8 @@ use Rattle.list_packets.specs.Values.{first_of}
 use Rattle.iptables_reader.specs.Reading.{head_of, options_of}
 use Rattle.iptables_reader.specs.Reached.{unless_unsaid, unsaid_from}
 use Rattle.iptables_reader.specs.OptionValues.{assumes_lacking, unless}
-use Rattle.iptables_reader.specs.SavedTables.{drops, is_base, is_drop, is_on_way, table_bit, table_named}
+use Rattle.iptables_reader.specs.SavedTables.{drops, hides_tables, is_base, is_drop, is_on_way, table_bit}
+use Rattle.iptables_reader.specs.SavedTables.{table_named}
 use Rattle.iptables_reader.specs.Stops.{◌>>=◌, taken}
 use Rattle.iptables_reader.specs.Values.{is_counters}
 
@@ -308,9 +309,11 @@ with_staged stage.Outside table line = begun table line
 with_staged stage.Declaring table line = with_inside table line
 with_staged stage.Ruling table line = with_inside table line
 
--- the table with a line, which was counted
+-- the table with a line, which was counted: tables that the list lacks may drop packets as well
 abbrev pub with_line : TableSoFar → List ℕ → Result TableSoFar LineKind
-with_line table line = if is_skipped line then Ok table else with_staged table.stage table line
+with_line table line =
+    unless (hides_tables line) MayDrop
+    (if is_skipped line then Ok table else with_staged table.stage table line)
 
 -- the chains, where the table `filter` came
 abbrev pub with_filter : TableSoFar → Result (List ListedChain) LineFault

@@ -46,7 +46,8 @@ pub enum LineKind {
     NoCommit,
     /// The file has no table `filter`.
     NoFilter,
-    /// By this line another table than `filter` may drop packets of the chain.
+    /// By this line another table than `filter` may drop packets of the chain, or the list lacks
+    /// tables, which may.
     MayDrop,
     /// An interface is assumed that packets of the chain lack: `in` of OUTPUT, or `out` of INPUT.
     LacksInterface,

@@ -1,6 +1,7 @@
 //! The tables of a save, their chains, and the way of packets through them.
 
 ghost use Rattle.std.specs.Prelude.{◌≡◌};
+ghost use Rattle.text_scan.specs.Parts.{words_of};
 ghost use Rattle.iptables_reader.specs.SavedTables as saved;
 
 use crate::options::Verdict;
@@ -8,7 +9,7 @@ use crate::reading::Act;
 use crate::tables::owner_in;
 use crate::words::is;
 use list_packets::meaning_of;
-use text_scan::split_line;
+use text_scan::{next_word, split_line};
 
 /// The tables of iptables-save.
 #[derive(Clone, Copy)]
@@ -105,6 +106,38 @@ pub(crate) fn is_drop(word: &[u8]) -> bool
     ensures { result ≡ saved.is_drop word.now }
 {
     is(word, b"DROP")
+}
+
+/// Whether a word names legacy iptables.
+fn is_legacy(word: &[u8]) -> bool
+    ensures { result ≡ saved.is_legacy word.now }
+{
+    is(word, b"iptables-legacy") || is(word, b"ip6tables-legacy")
+}
+
+/// Whether some word of a text does.
+fn has_legacy(text: &[u8]) -> bool
+    ensures { result ≡ saved.has_legacy (words_of text.now) }
+{
+    let mut left = text;
+    while let Some((word, rest)) = next_word(left) {
+        if is_legacy(word) {
+            return true;
+        }
+        left = rest;
+    }
+    false
+}
+
+/// Whether a line is a comment by which a save lacks tables, or some of their chains.
+pub(crate) fn hides_tables(line: &[u8]) -> bool
+    ensures { result ≡ saved.hides_tables line.now }
+{
+    match line {
+        [] => false,
+        [b'#', text @ ..] => text.starts_with(b" Table `") || has_legacy(text),
+        _ => false,
+    }
 }
 
 /// Whether a line begins another table than `filter`.

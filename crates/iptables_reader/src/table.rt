@@ -15,7 +15,9 @@ use crate::named_chains::NamedChains;
 use crate::option_values::assumes_lacking;
 use crate::reached::unsaid_from;
 use crate::reading::options;
-use crate::saved_tables::{SavedTable, drops, is_drop, is_on_way, table_bit, table_named};
+use crate::saved_tables::{
+    SavedTable, drops, hides_tables, is_drop, is_on_way, table_bit, table_named,
+};
 use crate::setting::Setting;
 use crate::words::is;
 use list_chains::Chain;
@@ -140,6 +142,9 @@ impl<'a> Table<'a> {
         ensures made { Makes (table.with_line self.old line.now) self.new result }
         ensures number { self.new.number ≡ self.old.number }
     {
+        if hides_tables(line) {
+            return Err(Stop::Faulty(LineKind::MayDrop));
+        }
         if is_skipped(line) {
             return Ok(());
         }
@@ -331,7 +336,8 @@ fn begins(byte: u8, line: &[u8]) -> bool
 /// The others are `raw`, `mangle`, `nat` and `security`. Their lines are read likewise. It is a
 /// fault if one of them may drop packets of `name`: by the policy DROP, or a rule with DROP or
 /// REJECT, whatever it matches. The chain is one that these packets come to by the hooks of
-/// netfilter, or any that rules lead to. Targets that aren't known are faults.
+/// netfilter, or any that rules lead to. Targets that aren't known are faults. So are comments by
+/// which the list lacks tables: "# Table `..", and those that name legacy iptables.
 ///
 /// Each rule is read from left to right. Its options are those on addresses, protocols and ports,
 /// on interfaces, states and types of addresses, as far as they are assumed, and of targets. Other
@@ -344,11 +350,11 @@ fn begins(byte: u8, line: &[u8]) -> bool
 /// empty; [`is_assumption`](list_packets::is_assumption) tells whether a text is one. If no chain
 /// has the name, all of them are given.
 ///
-/// `Line` comes exactly where an interface is assumed that packets of `name` lack, or the file is too
-/// long (line 0), some line is faulty (the first one, with its first fault), a table doesn't end or
-/// `filter` isn't there (the last line), or no rule file says a line that packets of `name` may come
-/// to (the first one), as long as memory lasts. It takes memory for the
-/// rules of the chains, for each name twice, and for two marks a chain.
+/// `Line` comes exactly where an interface is assumed that packets of `name` lack, or the file is
+/// too long (line 0), some line is faulty (the first one, with its first fault), a table doesn't
+/// end or `filter` isn't there (the last line), or no rule file says a line that packets of `name`
+/// may come to (the first one), as long as memory lasts. It takes memory for the rules of the
+/// chains, for each name twice, and for two marks a chain.
 pub fn read_chains(
     alloc: Global,
     bytes: &[u8],

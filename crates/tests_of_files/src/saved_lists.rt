@@ -110,7 +110,7 @@ const TABLES: &str = "*filter\n\
 
 /// Ends of that list, and the lines for which INPUT, FORWARD and OUTPUT are refused: 0 where they
 /// are read. Docker 28 drops in `raw` what comes to a container from elsewhere.
-const ENDS: [(&str, [u32; 3]); 7] = [
+const ENDS: [(&str, [u32; 3]); 10] = [
     ("COMMIT\n", [0, 0, 0]),
     (
         "-A PREROUTING -d 172.17.0.2/32 ! -i docker0 -j DROP\nCOMMIT\n",
@@ -126,6 +126,18 @@ const ENDS: [(&str, [u32; 3]); 7] = [
     (
         "COMMIT\n*raw\n:PREROUTING DROP [0:0]\nCOMMIT\n",
         [49, 49, 49],
+    ),
+    (
+        "COMMIT\n# Table `filter' is incompatible, use 'nft' tool.\n",
+        [49, 49, 49],
+    ),
+    (
+        "# Warning: iptables-legacy tables present, use iptables-legacy-save to see them\nCOMMIT\n",
+        [48, 48, 48],
+    ),
+    (
+        "COMMIT\n# Completed on Wed Dec  2 08:35:38 2026\n",
+        [0, 0, 0],
     ),
 ];
 
