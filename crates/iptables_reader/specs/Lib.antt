@@ -13,5 +13,6 @@ pub mod Reached
 pub mod Table
 pub mod TableExamples
 pub mod SavedExamples
+pub mod LimitsExamples
 pub mod Joined
 pub mod NoPart

@@ -27,7 +27,6 @@ use Rattle.iptables_reader.specs.declared.options.Match.{Match}
 use Rattle.iptables_reader.specs.declared.options.Match.TheVariants as kind
 use Rattle.iptables_reader.specs.declared.options.RuleOption.{RuleOption}
 use Rattle.iptables_reader.specs.declared.options.RuleOption.TheVariants as option
-use Rattle.iptables_reader.specs.declared.options.TheConstants.{ANY_OPTIONS}
 use Rattle.iptables_reader.specs.declared.options.Verdict.{Verdict}
 use Rattle.iptables_reader.specs.declared.options.Verdict.TheVariants as verdict
 use Rattle.iptables_reader.specs.declared.reading.Act.{Act}
@@ -164,8 +163,8 @@ with_met negated None kind reading = with_cause kind reading
 with_met negated (Some met) kind reading =
     record reading { never = reading.never || (if negated then met else not met) }
 
--- packets of OUTPUT and POSTROUTING come by no interface, and those of PREROUTING and INPUT leave by
--- none that is known there
+-- packets of OUTPUT and POSTROUTING come by no interface, and those of PREROUTING and INPUT leave
+-- by none that is known there
 abbrev pub lacks_interface : List ℕ → End → Bool
 lacks_interface chain end.Source =
     bytes_eq chain (codes "OUTPUT") || bytes_eq chain (codes "POSTROUTING")
@@ -266,13 +265,17 @@ abbrev pub with_kind : Family → Reading → Option Match → Result Reading Li
 with_kind family reading None = Ok (with_cause fault.CantSay reading)
 with_kind family reading (Some named) = with_needs family reading named
 
+-- the bits of the options of any rule, which come once, however many matches are named: up to 256
+abbrev pub any_options : ℕ
+any_options = 511
+
 -- a match by its name: its options may come again
 abbrev pub with_match : RuleSetting → Reading → List ℕ → Result Reading LineKind
 with_match setting reading word =
     taken fault.BadMatch (owner_in word match_table) (λ place. place) >>= λ place.
     with_kind setting.family (record reading {
       rows = rows.Match place;
-      given = bit_and reading.given ANY_OPTIONS;
+      given = bit_and reading.given any_options;
       kind = match_named word;
     }) (match_named word)
 

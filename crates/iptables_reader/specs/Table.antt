@@ -21,7 +21,6 @@ use Rattle.iptables_reader.specs.declared.fault.LineKind.TheVariants.{FileTooLon
 use Rattle.iptables_reader.specs.declared.fault.LineKind.TheVariants.{SecondTable, NoCommit, BadChain}
 use Rattle.iptables_reader.specs.declared.fault.LineKind.TheVariants.{LacksInterface, MayDrop, NoFilter}
 use Rattle.iptables_reader.specs.declared.fault.LineKind.TheVariants.{ChainTwice, LateChain, BadPolicy}
-use Rattle.iptables_reader.specs.declared.table.TheConstants.{MAX_LIST}
 use Rattle.iptables_reader.specs.declared.answers.Answers.{Answers}
 use Rattle.iptables_reader.specs.declared.answers.Answers.TheVariants as answers
 use Rattle.iptables_reader.specs.declared.answers.Asked.{Asked}
@@ -44,7 +43,7 @@ use Rattle.iptables_reader.specs.Values.{is_counters}
 
 -- how many bytes a list may have
 abbrev pub max_list : ℕ
-max_list = MAX_LIST
+max_list = 16777216
 
 -- What was read of a list, for which something is asked and assumed, of packets of the chain of a
 -- name: how many lines, how far they lead in the last table, the bits of the tables that came, the

@@ -9,7 +9,6 @@ use Rattle.list_packets.specs.Names.{number_in}
 use Rattle.list_packets.specs.Values.{closed_span, comma, first_of, max_count, max_protocol, plain_number}
 use Rattle.iptables_reader.specs.declared.fault.LineKind.{LineKind}
 use Rattle.iptables_reader.specs.declared.fault.LineKind.TheVariants.{BadPorts}
-use Rattle.iptables_reader.specs.declared.values.TheConstants.{MAX_PORTS}
 use Rattle.iptables_reader.specs.Stops.{◌>>=◌, taken}
 use Rattle.iptables_reader.specs.Tables.{protocol_table, state_table}
 
@@ -43,7 +42,7 @@ has_state number (part ∷ parts) = is_state_of number part || has_state number 
 
 -- how many ports a list has at most
 abbrev pub max_ports : ℕ
-max_ports = MAX_PORTS
+max_ports = 15
 
 -- spans and that of one more part
 abbrev pub with_part : List Span → List ℕ → Result (List Span) LineKind
