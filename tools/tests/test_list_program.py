@@ -264,6 +264,14 @@ class Asking(unittest.TestCase):
         self.assertIn("read by this tool's own reader, which isn't proved: aclc-lists: list: line 6: bad address", said)
         self.assertTrue(printed.startswith("# Made by aclc convert iptables, unproved, of fw, INPUT."), printed)
 
+    def test_each_line_of_what_it_says_is_shown(self):
+        told = ["aclc-lists: list: line 6: bad address", "  -A INPUT -s 10.0.0 -j DROP",
+                "aclc-lists: list: line 9: bad ports", "  -A INPUT -p tcp --dport x -j DROP"]
+        for words, code in (([], 3), (["--unproved"], 0)):
+            (ended, _, said), _ = self.convert("", "".join(f"{line}\\n" for line in told), 3, *words)
+            self.assertEqual(ended, code, said)
+            self.assertIn("\n".join(told) + "\n", said)
+
     def test_its_answer_is_taken_also_where_the_unproved_reader_may_read(self):
         for words in (["--unproved"], ["--lenient"], ["--unproved", "--lenient"]):
             (code, printed, said), _ = self.convert(RULES, "", 0, *words)
