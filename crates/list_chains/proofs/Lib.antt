@@ -10,6 +10,7 @@ pub mod LoopedWays
 pub mod MadeRules
 pub mod Marks
 pub mod Meets
+pub mod Offered
 pub mod Returns
 pub mod RowSteps
 pub mod SameSteps

@@ -43,14 +43,14 @@ length_answered userdata [] = refl
 length_answered userdata (row ∷ rows) = ap (λ n. suc n) (length_answered userdata rows)
 
 -- what rules before others are
-record IsBefore (rules : List RuleView) (others : Result (List RuleView) LimitFault) (all : List RuleView)
+pub record IsBefore (rules : List RuleView) (others : Result (List RuleView) LimitFault) (all : List RuleView)
     : Type 0 where
-  rest : List RuleView
-  made_rest : others ≡ Ok rest
-  are : all ≡ rules ++ rest
+  pub rest : List RuleView
+  pub made_rest : others ≡ Ok rest
+  pub are : all ≡ rules ++ rest
 
 -- rules before others are there if the others are
-before_is : (rules : List RuleView) (others : Result (List RuleView) LimitFault) (all : List RuleView) →
+pub before_is : (rules : List RuleView) (others : Result (List RuleView) LimitFault) (all : List RuleView) →
     rules_before rules others ≡ Ok all → IsBefore rules others all
 before_is rules (Ok others) all is = record { rest = others; made_rest = refl; are = cc }
 before_is rules (Err fault) all is = absurd (cc)
@@ -80,7 +80,7 @@ module _ (layout : List FieldDef) (chains : Chains) (policy : ℕ) (key : List �
       }
 
   -- a task answers for no packets but those of its box
-  act_outside : (act : Act) (box : List Span) (frames : List Frame) → holds box ≡ false →
+  pub act_outside : (act : Act) (box : List Span) (frames : List Frame) → holds box ≡ false →
       first_answer holds (act_flat chains policy act box frames) ≡ None
   act_outside (Follow frame) box frames e =
       let rest = frames_leave frames in
@@ -90,7 +90,7 @@ module _ (layout : List FieldDef) (chains : Chains) (policy : ℕ) (key : List �
   act_outside (Answer userdata) box frames e = rw e refl
 
   -- a box that is decided has no key that isn't in the last one
-  decided_outside : (last : Option (List Span)) (box : List Span) → is_decided last box ≡ true →
+  pub decided_outside : (last : Option (List Span)) (box : List Span) → is_decided last box ≡ true →
       holds_in holds last ≡ false → holds box ≡ false
   decided_outside None box is outside = absurd (cc)
   decided_outside (Some last) box is outside = elim (cases_Bool (holds box)) [

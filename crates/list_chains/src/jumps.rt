@@ -10,7 +10,7 @@ use crate::fault::{ChainsFault, RulePlace};
 use std::alloc::{AllocError, Global};
 
 /// For each chain whether jumps from it come to an end. It takes the memory of two marks a chain.
-pub(crate) fn ending(alloc: Global, chains: &[Chain]) -> Result<Vec<bool>, AllocError>
+pub fn ending(alloc: Global, chains: &[Chain]) -> Result<Vec<bool>, AllocError>
     ensures { IfOk result (λ marks. marks.items ≡ ending chains.now) }
 {
     shallow(alloc, chains, chains.len())
@@ -85,7 +85,7 @@ pub fn led_to(target: Target) -> Option<usize>
 }
 
 /// Whether the chain of a place is there, and marked.
-pub(crate) fn is_marked(marks: &[bool], place: usize) -> bool
+pub fn is_marked(marks: &[bool], place: usize) -> bool
     ensures { result ≡ at_or marks.now place false }
 {
     place < marks.len() && marks[place]
@@ -125,7 +125,7 @@ fn rules_of(chains: &[Chain], chain: usize) -> &[ChainRule]
 }
 
 /// The rule that the way from a chain comes to, by first rules that lead to chains without a mark.
-pub(crate) fn way(chains: &[Chain], marks: &[bool], start: usize) -> ChainsFault
+pub fn way(chains: &[Chain], marks: &[bool], start: usize) -> ChainsFault
     requires { start < length chains.now }
     ensures { result ≡ way (length chains.now) chains.now marks.now start }
 {

@@ -6,6 +6,8 @@
 //! is left to do stands in a list: a box of packets that come to a rule, leave their chain, or have
 //! an answer. A box within the last that was written is decided, and passed over.
 //!
+//! The tasks and their steps are public for crates that make other rules of the same steps.
+//!
 //! - `chain`: chains of rules, over boxes
 //! - `span`: boxes of keys, a span of numbers for each field
 //! - `negation`: the numbers beside a span
@@ -30,7 +32,10 @@ mod values;
 
 pub use chain::{Chain, ChainRule, Target};
 pub use fault::{ChainsFault, LimitFault, RulePlace};
-pub use jumps::led_to;
+pub use jumps::{ending, is_marked, led_to, way};
 pub use negation::others;
 pub use span::{Span, SpanBox, common};
-pub use turning::{MAX_DEPTH, rules_of_chains};
+pub use steps::{put_entry, put_leaving, put_steps};
+pub use task::{Act, Frame, Task, Tasks};
+pub use turning::{MAX_DEPTH, MAX_STEPS, Turn, answer_of, is_decided, is_shallow, rules_of_chains};
+pub use values::{Row, box_rows};

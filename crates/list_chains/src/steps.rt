@@ -12,7 +12,7 @@ use crate::task::{Act, Frame, Task, Tasks};
 use std::alloc::{AllocError, Global};
 
 /// Puts what a task leaves to do before the other tasks. An answer leaves nothing.
-pub(crate) fn put_steps(
+pub fn put_steps(
     alloc: Global,
     chains: &[Chain],
     policy: u32,
@@ -141,7 +141,7 @@ fn put_target(
 }
 
 /// The packets of a box leave their chain.
-pub(crate) fn put_leaving(
+pub fn put_leaving(
     alloc: Global,
     frames: &[Frame],
     within: SpanBox,
@@ -158,7 +158,7 @@ pub(crate) fn put_leaving(
 }
 
 /// The packets of a box come to a chain, if jumps may lead through one more.
-pub(crate) fn put_entry(
+pub fn put_entry(
     depth: usize,
     place: usize,
     met: SpanBox,

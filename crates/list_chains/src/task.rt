@@ -8,15 +8,15 @@ use std::marker::Model;
 
 /// A rule of a chain by the places of both, and through how many chains jumps may lead from there.
 #[derive(Clone, Copy)]
-pub(crate) struct Frame {
-    pub(crate) depth: usize,
-    pub(crate) chain: usize,
-    pub(crate) rule: usize,
+pub struct Frame {
+    pub depth: usize,
+    pub chain: usize,
+    pub rule: usize,
 }
 
 /// What is done with the packets of a box.
 #[derive(Clone, Copy)]
-pub(crate) enum Act {
+pub enum Act {
     /// They come to a rule.
     Follow(Frame),
     /// They leave their chain.
@@ -28,15 +28,15 @@ pub(crate) enum Act {
 /// An act, the box of its packets, and the rules after the jumps that led to them, the last one
 /// first.
 #[derive(Drop)]
-pub(crate) struct Task {
-    pub(crate) act: Act,
-    pub(crate) within: SpanBox,
-    pub(crate) frames: Vec<Frame>,
+pub struct Task {
+    pub act: Act,
+    pub within: SpanBox,
+    pub frames: Vec<Frame>,
 }
 
 /// Tasks, of which the next one is the last that was put there.
 #[derive(Drop)]
-pub(crate) struct Tasks {
+pub struct Tasks {
     kept: Vec<Task>,
 }
 
@@ -54,7 +54,7 @@ impl Tasks {
     ghost use Rattle.list_chains.specs.Tasks.{task_of};
 
     /// No tasks.
-    pub(crate) fn new(alloc: Global) -> Tasks
+    pub fn new(alloc: Global) -> Tasks
         ensures { result ≡ [] }
     {
         Tasks {
@@ -63,7 +63,7 @@ impl Tasks {
     }
 
     /// Puts a task before the others.
-    pub(crate) fn push(&mut self, task: Task) -> Result<(), AllocError>
+    pub fn push(&mut self, task: Task) -> Result<(), AllocError>
         ensures { OnOk result (self.new ≡ task_of task ∷ self.old) }
     {
         self.kept.push(task)?;
@@ -71,7 +71,7 @@ impl Tasks {
     }
 
     /// The next task, which is taken away.
-    pub(crate) fn pop(&mut self) -> Option<Task>
+    pub fn pop(&mut self) -> Option<Task>
         ensures { MatchOption result ((self.old ≡ []) × (self.new ≡ []))
             (λ task. self.old ≡ task_of task ∷ self.new) }
     {

@@ -31,7 +31,7 @@ use std::alloc::{AllocError, Global};
 use table_sizes::MAX_RULES;
 
 /// The most steps that are made, the last of which finds nothing left to do.
-pub(crate) const MAX_STEPS: u32 = 16_777_216;
+pub const MAX_STEPS: u32 = 16_777_216;
 
 /// The most chains that jumps lead through, that of the first rule counted.
 pub const MAX_DEPTH: usize = 1024;
@@ -46,7 +46,7 @@ pub(crate) struct Turning {
 
 /// What a step comes to.
 #[derive(Clone, Copy)]
-pub(crate) enum Turn {
+pub enum Turn {
     /// There may be more to do.
     More,
     /// Nothing is left to do.
@@ -100,7 +100,7 @@ pub fn rules_of_chains(
 }
 
 /// Whether jumps from a chain lead through no more chains than are followed.
-fn is_shallow(alloc: Global, chains: &[Chain], start: usize) -> Result<bool, AllocError>
+pub fn is_shallow(alloc: Global, chains: &[Chain], start: usize) -> Result<bool, AllocError>
     ensures { IfOk result (λ is. is ≡ at_or (shallow max_depth chains.now) start false) }
 {
     let marks = shallow(alloc, chains, MAX_DEPTH)?;
@@ -181,7 +181,7 @@ fn one_turn(
 }
 
 /// The answer of an act, if it is one.
-fn answer_of(act: Act) -> Option<u32>
+pub fn answer_of(act: Act) -> Option<u32>
     ensures { MatchOption result (IsNoAnswer act) (λ userdata. act ≡ Act.Answer userdata) }
 {
     match act {
@@ -191,7 +191,7 @@ fn answer_of(act: Act) -> Option<u32>
 }
 
 /// Whether a box lies within the last that was written.
-fn is_decided(last: &Option<SpanBox>, within: &SpanBox) -> bool
+pub fn is_decided(last: &Option<SpanBox>, within: &SpanBox) -> bool
     ensures { result ≡ is_decided last.now within.now }
 {
     match last {

@@ -16,7 +16,7 @@ use std::marker::Model;
 
 /// The values of a rule, in the order of the fields. Contracts see the list.
 #[derive(Drop)]
-pub(crate) struct Row {
+pub struct Row {
     values: Vec<FieldValue>,
 }
 
@@ -52,7 +52,7 @@ impl Row {
     }
 
     /// The values.
-    pub(crate) fn values(&self) -> &[FieldValue]
+    pub fn values(&self) -> &[FieldValue]
         ensures { result.now ≡ self.now }
     {
         self.values.as_slice()
@@ -199,7 +199,7 @@ fn each_before(
 }
 
 /// The rows of the rules of a box, or None where there are more than so many.
-pub(crate) fn box_rows(
+pub fn box_rows(
     alloc: Global,
     defs: &[FieldDef],
     spans: &[Span],
