@@ -1,0 +1,9 @@
+pub mod Anew
+pub mod Categories
+pub mod Clear
+pub mod Conditions
+pub mod Homs
+pub mod MadeRules
+pub mod Oracles
+pub mod Ruled
+pub mod Turnings

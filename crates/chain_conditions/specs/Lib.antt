@@ -1,0 +1,11 @@
+pub mod Anew
+pub mod Categories
+pub mod ConditionExamples
+pub mod Conditions
+pub mod Kinds
+pub mod Laws
+pub mod Made
+pub mod Marked
+pub mod Ruled
+pub mod Turned
+pub mod TurnedExamples
