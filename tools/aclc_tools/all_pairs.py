@@ -11,7 +11,7 @@ from aclc_tools.compared import Compared, answer_at, numbers_of
 from aclc_tools.differences import Differences
 from aclc_tools.program import leave
 from aclc_tools.rule_file import MOST_RULES
-from aclc_tools.two_lists import Change
+from aclc_tools.two_lists import Change, excepted_of
 
 MOST_BOXES = 8
 # Rules that stand for the boxes of all pairs, and boxes that are joined.
@@ -184,16 +184,3 @@ class AllPairs:
         categories = list(it.pair.categories)
         row = self.two.row(Change(None, None, categories[0], it.pair.old, it.pair.new), it.key)
         return {"family": it.pair.family, **row, "categories": categories}
-
-
-def excepted_of(listed, numbers):
-    """The entries of the lines that are excepted, by their numbers."""
-    found = [entry for entry in listed.entries if entry.number is not None and entry.number in numbers]
-    for number in numbers:
-        if number not in {entry.number for entry in found}:
-            what = listed.entries[0].what if listed.entries else "line"
-            leave(f"{listed.name}: --except {number}: no rule of the new list is {what} {number}", 2)
-    left = next((entry for entry in found if entry.why), None)
-    if left:
-        leave(f"{listed.name}: --except {left.number}: it was left out, so that its packets aren't known", 2)
-    return found

@@ -8,16 +8,10 @@ from aclc_tools.printing import numbers_text, print_csv, print_json
 OPEN = "lines were left out that may decide otherwise in one list"
 
 
-def places(pairs):
-    """The excepted lines in words, and that they decide."""
-    decide = "decides" if len(pairs.excepted) == 1 else "decide"
-    return f"{' and '.join(entry.place() for entry in pairs.excepted)} of NEW {decide}"
-
-
 def of_family(pairs, family):
     """What is told of a family in a line."""
     count = sum(it.pair.family == family for it in pairs.told)
-    rest = f", except packets that {places(pairs)}" if pairs.excepted else ""
+    rest = f", except packets that {two_lists.words_of_excepted(pairs.excepted)}" if pairs.excepted else ""
     if not count:
         unknown = f"couldn't tell: {OPEN}" if family in pairs.open else "couldn't tell all" if pairs.unknown else ""
         return f"IPv{family}: {unknown or 'the same' + rest}"
@@ -29,10 +23,7 @@ def of_family(pairs, family):
 
 def print_text(pairs, said):
     """The excepted lines first, and each family with its pairs."""
-    if pairs.excepted:
-        print(f"except: packets that {places(pairs)} are left out")
-        for entry in pairs.excepted:
-            print(f"  {entry.told()}")
+    two_lists.print_excepted(pairs.excepted)
     with_categories = any(its.has_categories for its in pairs.two.lists)
     for family in (4, 6):
         print(of_family(pairs, family))
@@ -59,7 +50,7 @@ def print_as_json(pairs, said):
         told.append({**{name: row[name] for name in names}, "not_decided": it.pair.is_open,
                      "boxes": [regions.values(it.pair.family, box) for box in it.boxes[:MOST_BOXES]],
                      "more_boxes": max(0, len(it.boxes) - MOST_BOXES)})
-    excepted = [{"line": it.number, "verdict": it.verdict, "rule": it.text} for it in pairs.excepted]
+    excepted = two_lists.told_excepted(pairs.excepted)
     same = not told and pairs.is_told()
     first = {"except": excepted, "same_except_these": same} if excepted else {"same": same}
     print_json({**first, "data": pairs.two.data, "pairs": told, "all_told": pairs.is_told(), "unknown": pairs.unknown,

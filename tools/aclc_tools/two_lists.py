@@ -4,6 +4,7 @@ from collections import namedtuple
 
 from aclc_tools import answers, any_list, labels, packet_words
 from aclc_tools.printing import shown
+from aclc_tools.program import leave
 
 COLUMNS = ["category", "old", "old_line", "old_rule", "new", "new_line", "new_rule"]
 # A packet that changed: its capture and number, a category, and the numbers of the rules that decide, or None.
@@ -57,3 +58,35 @@ class TwoLists:
         for side in ("old", "new"):
             rule = f"{row[side + '_place']}: {row[side + '_rule']}" if row[side + "_place"] else "no rule matches"
             print("  " + "  ".join(filter(None, [side, labels.told(row[side], self.data).ljust(width), shown(rule)])))
+
+
+def excepted_of(listed, numbers):
+    """The entries of the lines that are excepted, by their numbers."""
+    found = [entry for entry in listed.entries if entry.number is not None and entry.number in numbers]
+    for number in numbers:
+        if number not in {entry.number for entry in found}:
+            what = listed.entries[0].what if listed.entries else "line"
+            leave(f"{listed.name}: --except {number}: no rule of the new list is {what} {number}", 2)
+    left = next((entry for entry in found if entry.why), None)
+    if left:
+        leave(f"{listed.name}: --except {left.number}: it was left out, so that its packets aren't known", 2)
+    return found
+
+
+def words_of_excepted(entries):
+    """Excepted lines in words, and that they decide."""
+    decide = "decides" if len(entries) == 1 else "decide"
+    return f"{' and '.join(entry.place() for entry in entries)} of NEW {decide}"
+
+
+def print_excepted(entries):
+    """Says which lines are excepted, before all else."""
+    if entries:
+        print(f"except: packets that {words_of_excepted(entries)} are left out")
+    for entry in entries:
+        print(f"  {entry.told()}")
+
+
+def told_excepted(entries):
+    """Excepted lines for a program."""
+    return [{"line": it.number, "verdict": it.verdict, "rule": it.text} for it in entries]

@@ -146,6 +146,7 @@ def in_part(part, key):
 
 WEB, ANY = "@10.0.0.0/8 0.0.0.0/0 0:65535 80:80 6/0xFF", "@0.0.0.0/0 0.0.0.0/0 0:65535 0:65535 0/0"
 OFFICE, EDITED = EXAMPLES / "office.rules", EXAMPLES / "edited.rules"
+CAPTURE = EXAMPLES / "office.pcap"
 EXCEPT = "except: packets that line 3 of NEW decides are left out\n"
 CISCO = ("ip access-list extended A\n permit tcp any any established\n permit udp any any eq 53\n"
          " permit tcp 10.0.0.0 0.0.0.255 any eq 22\n deny ip any any\n")
@@ -228,6 +229,18 @@ class Same(Lists):
             self.assertEqual((done, told["couldnt_tell"], told["same"]), (code, open_ones, code == 0), new)
         self.assertEqual([(it["old_line"], it["new_line"], it["not_decided"]) for it in told["pairs"]], [(5, 5, True)])
         self.assertEqual(self.json("--except", "5", "--lenient", self.file(CISCO), self.file(opened))[0], 2)
+
+    def test_changes_leave_out_what_excepted_lines_decide_and_count_it(self):
+        code, told, said = tool("changes", "--except", "3", OFFICE, EDITED, CAPTURE)
+        self.assertEqual((code, said), (0, ""))
+        self.assertTrue(told.startswith(EXCEPT), told)
+        self.assertTrue(told.endswith("0 of 3 packets get another answer, except 1 that line 3 of NEW decides\n"), told)
+        code, told, _ = tool("changes", "--json", "--except", "2", OFFICE, EDITED, CAPTURE)
+        told = json.loads(told)
+        self.assertEqual((code, told["changed"], told["changed_by_excepted"], told["except"][0]["line"]), (1, 1, 0, 2))
+        self.assertIn(",except\n", tool("changes", "--csv", "--except", "3", OFFICE, EDITED, CAPTURE)[1])
+        self.assertNotIn("except", tool("changes", "--csv", OFFICE, EDITED, CAPTURE)[1])
+        self.assertEqual(tool("changes", "--except", "9", OFFICE, EDITED, CAPTURE)[0], 2)
 
 
 @BUILT
