@@ -29,11 +29,11 @@ Answered = namedtuple("Answered", "columns number verdict text")
 
 
 class Refused(Exception):
-    """What the program said as it refused a list, or why it can't be asked; and its exit code, or None."""
+    """What the program said as it refused a list, or why it can't be asked."""
 
-    def __init__(self, message, code=None):
+    def __init__(self, message):
         super().__init__(message)
-        self.message, self.code = message, code
+        self.message = message
 
 
 def only(names, what, option):
@@ -115,7 +115,7 @@ def written(options, text, word, chain):
     if done.returncode == REFUSED and said:
         return Written(None, said)
     if done.returncode != DONE:
-        return leave(f"{options.file}: aclc-lists ended with {done.returncode}: {said or 'no message'}", done.returncode)
+        return leave(f"{options.file}: aclc-lists ended with {done.returncode}: {said or 'no message'}", 2)
     # What it says beside its answer is told once, though it is asked for lines and for verdicts.
     if said and f"{options.file}: {said}" not in NOTES:
         note(f"{options.file}: {said}")
@@ -138,7 +138,7 @@ def rule_file_of(options, text):
         for word, chain in MEANT[options.form](options, text):
             done = written(options, text, word, chain)
             if done.lines is None:
-                raise Refused(done.message, REFUSED)
+                raise Refused(done.message)
             found += [*head_of(options, word, chain), *done.lines]
         return found
     except Refused as refused:

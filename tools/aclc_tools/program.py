@@ -51,7 +51,7 @@ def list_program():
     if os.access(found, os.X_OK) and not found.is_dir():
         return found
     if named:
-        return leave(f"{named}: ACLC_LISTS names no program", 101)
+        return leave(f"{named}: ACLC_LISTS names no program", 2)
     return shutil.which("aclc-lists") if named is None else None
 
 

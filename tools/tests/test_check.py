@@ -129,7 +129,7 @@ class Check(unittest.TestCase):
         rules = self.write("list.rules", b"@10.0.0.0/8\t0.0.0.0/0 0:65535 80-90 6/0xFF\n@1.1.1.1/32 any\n")
         done = subprocess.run([str(CHECK), str(rules), str(EXAMPLES / "guide.pcap")], stdout=subprocess.PIPE)
         lines = done.stdout.decode().split("\n")
-        self.assertEqual(done.returncode, 3)
+        self.assertEqual(done.returncode, 1)
         self.assertEqual(lines[0], f"{rules}:1: bad ports")
         self.assertEqual(lines[1][lines[2].index("^"):lines[2].rindex("^") + 1], "80-90")
         self.assertIn(f"{rules}:2: bad address", lines)
@@ -139,7 +139,7 @@ class Check(unittest.TestCase):
         for kind in ("pcap", "pcapng"):
             names = EXAMPLES / f"mixed.{kind}", EXAMPLES / "mixed.rules"
             done = subprocess.run([str(CHECK), *map(str, names)], stdout=subprocess.PIPE, text=True)
-            self.assertEqual(done.returncode, 3)
+            self.assertEqual(done.returncode, 1)
             self.assertEqual(done.stdout.count("the rule file is named first"), 2)
             self.assertNotIn("UTF-16", done.stdout)
             told = [line for line in done.stdout.splitlines() if line.startswith("the program says: ")]
@@ -155,8 +155,9 @@ class Check(unittest.TestCase):
 
     def test_codes(self):
         for words, code in (([EXAMPLES / "office.rules"], 0),
-                            ([EXAMPLES / "guide.rules", EXAMPLES / "office.rules"], 5),
-                            ([EXAMPLES / "guide.pcap"], 3), (["none"], 7), ([], 2)):
+                            ([EXAMPLES / "guide.rules", EXAMPLES / "office.rules"], 1),
+                            ([EXAMPLES / "guide.pcap"], 1), (["none"], 2), ([], 2),
+                            ([EXAMPLES / "guide.rules", "none"], 2), ([EXAMPLES / "guide.pcap", "none"], 2)):
             done = subprocess.run([str(CHECK), *map(str, words)], stdout=subprocess.PIPE, stderr=subprocess.PIPE)
             self.assertEqual(done.returncode, code, done.stderr)
 

@@ -189,11 +189,11 @@ class Cisco(routers.ListsCase):
                 self.assertEqual(routers.deciding(form, text, family=4), lines)
 
     def test_the_command_tells_the_line(self):
-        self.tells(["cisco", "--list", "WITH-STATE", "edge.cisco"], 1, "edge.cisco:30: it compares TCP flags")
+        self.tells(["cisco", "--list", "WITH-STATE", "edge.cisco"], 2, "edge.cisco:30: it compares TCP flags")
         self.tells(["cisco", "--lenient", "--list", "WITH-STATE", "edge.cisco"], 0,
                    "edge.cisco:31: left out: it compares a type of ICMP")
-        self.tells(["asa", "--list", "with_types", "site.asa"], 1, "site.asa:55: it compares a type of ICMP")
-        self.tells(["nxos", "--list", "NONE", "leaf.nxos"], 1, "there is no list NONE; there are: EDGE-IN")
+        self.tells(["asa", "--list", "with_types", "site.asa"], 2, "site.asa:55: it compares a type of ICMP")
+        self.tells(["nxos", "--list", "NONE", "leaf.nxos"], 2, "there is no list NONE; there are: EDGE-IN")
 
     def test_damaged_lists_are_converted_without_loss_or_refused(self):
         for module in (forms_cisco, forms_asa, forms_nxos, forms_iosxr):

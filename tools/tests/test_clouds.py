@@ -229,11 +229,11 @@ class Clouds(routers.ListsCase):
         self.refuses("aws", "[" * 100000, 0, "nested too deep")
 
     def test_the_command_tells_the_rule(self):
-        self.tells(["juniper", "--list", "limited", "border.juniper"], 1,
+        self.tells(["juniper", "--list", "limited", "border.juniper"], 2,
                    "border.juniper:44: it does policer one-megabit")
-        self.tells(["aws", "--list", "database", "--chain", "ingress", "vpc.aws-groups.json"], 1,
+        self.tells(["aws", "--list", "database", "--chain", "ingress", "vpc.aws-groups.json"], 2,
                    "rule 2: it names a group")
-        self.tells(["azure", "--chain", "Outbound", "shop.azure-nsg.json"], 1,
+        self.tells(["azure", "--chain", "Outbound", "shop.azure-nsg.json"], 2,
                    "priority 65000: it names the service tag")
 
     def test_damaged_lists_are_converted_without_loss_or_refused(self):

@@ -50,11 +50,11 @@ class Convert(unittest.TestCase):
     def test_the_command_writes_and_refuses(self):
         for words, code, said in ((["iptables", "--chain", "FORWARD", "gateway.iptables-save"], 0, ""),
                                   (["classbench-trace", "sample.trace"], 0, ""),
-                                  (["l3fwd", str(TOP / "examples" / "office.rules")], 1,
+                                  (["l3fwd", str(TOP / "examples" / "office.rules")], 2,
                                    "office.rules:2: pri=20 is an attribute"),
                                   (["l3fwd", "--lenient", str(TOP / "examples" / "office.rules")], 0,
                                    "office.rules:3: left out: pri=10 is an attribute"),
-                                  (["l3fwd", "none"], 7, "No such file"), (["other", "x"], 2, "")):
+                                  (["l3fwd", "none"], 2, "No such file"), (["other", "x"], 2, "")):
             done = tool("convert", *words, cwd=DATA)
             self.assertEqual(done[0], code, done)
             self.assertIn(said, done[2])
@@ -103,7 +103,7 @@ class Convert(unittest.TestCase):
             os.close(reading)
             done = subprocess.run([str(CONVERT), form, str(DATA / file), "--unproved"], stdout=writing, stderr=subprocess.PIPE, env=OWN)
             os.close(writing)
-            self.assertEqual((done.returncode, UNPROVED.sub("", done.stderr.decode())), (1, told))
+            self.assertEqual((done.returncode, UNPROVED.sub("", done.stderr.decode())), (2, told))
 
     def test_a_rule_file_is_utf_8_whatever_the_terminal_has(self):
         text = "*filter\n:INPUT DROP [0:0]\n-A INPUT -s 10.0.0.1 -m comment --comment \"\u2192\" -j ACCEPT\nCOMMIT\n"
@@ -116,7 +116,7 @@ class Convert(unittest.TestCase):
     def test_a_closed_output_is_no_traceback(self):
         done = subprocess.run(["sh", "-c", '"$0" l3fwd sample.l3fwd >&-', str(CONVERT)], cwd=DATA,
                               stderr=subprocess.PIPE)
-        self.assertEqual((done.returncode, done.stderr), (1, b"convert: standard output is closed\n"))
+        self.assertEqual((done.returncode, done.stderr), (2, b"convert: standard output is closed\n"))
 
     def test_traces_with_what_a_packet_cannot_say(self):
         for text, reason in (("1 2 3 4 1", "has no ports"), ("1 2 3", "a line has"),

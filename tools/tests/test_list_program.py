@@ -253,10 +253,10 @@ class Asking(unittest.TestCase):
         _, (_, text) = self.convert(RULES, "", 0)
         self.assertEqual(text, LIST)
 
-    def test_what_it_refuses_is_refused_with_its_message_and_code(self):
+    def test_what_it_refuses_is_refused_with_its_message(self):
         for words, text in (([], LIST), (["--lenient"], LIST)):
             (code, printed, said), _ = self.convert("", "aclc-lists: list: line 6: bad address\\n", 3, *words, text=text)
-            self.assertEqual((code, printed), (3, ""))
+            self.assertEqual((code, printed), (2, ""))
             self.assertIn("fw: aclc-lists: list: line 6: bad address\n    --unproved reads it", said)
         shown = "aclc-lists: list: line 6: bad address\\n  -A INPUT -s ?[2J -j DROP\\n"
         (code, printed, said), _ = self.convert("", shown, 3, "--unproved")
@@ -281,7 +281,7 @@ class Asking(unittest.TestCase):
     def test_without_the_program_only_what_it_does_not_read_is_converted(self):
         words = ["--chain", "FORWARD", DATA / "gateway.iptables-save"]
         code, printed, said = tool("convert", "iptables", *words, env={"ACLC_LISTS": ""})
-        self.assertEqual((code, printed), (1, ""))
+        self.assertEqual((code, printed), (2, ""))
         self.assertIn("the proved program aclc-lists isn't there\n    --unproved reads it", said)
         self.assertEqual(tool("convert", "iptables", "--unproved", *words, env={"ACLC_LISTS": ""})[0], 0)
         code, printed, said = tool("convert", "nxos", "--list", "EDGE-IN", DATA / "leaf.nxos", env={"ACLC_LISTS": ""})
@@ -296,7 +296,7 @@ class Asking(unittest.TestCase):
     def test_another_table_than_filter_is_read_by_the_unproved_reader_alone(self):
         words = ["--table", "nat", "--chain", "PREROUTING", "--lenient"]
         (code, printed, said), (asked, _) = self.convert(RULES, "", 0, *words)
-        self.assertEqual((code, printed, asked), (1, "", None))
+        self.assertEqual((code, printed, asked), (2, "", None))
         self.assertIn("aclc-lists reads the table filter alone", said)
         (code, printed, _), _ = self.convert(RULES, "", 0, *words, "--unproved")
         self.assertEqual(code, 0)
@@ -310,20 +310,20 @@ class Asking(unittest.TestCase):
         self.assertEqual((code, words.split("\n")[2]), (0, "INPUT"))
         both = LIST.replace("-A INPUT", "-A OUTPUT -j ACCEPT\n-A INPUT").replace(":INPUT", ":OUTPUT DROP [0:0]\n:INPUT")
         (code, _, said), (words, _) = self.convert(RULES, "", 0, text=both)
-        self.assertEqual((code, words, "which chain is meant isn't said: --chain OUTPUT or --chain INPUT" in said), (1, None, True))
+        self.assertEqual((code, words, "which chain is meant isn't said: --chain OUTPUT or --chain INPUT" in said), (2, None, True))
 
     def test_any_other_end_of_it_ends_the_tool(self):
         for printed, said, code in ((RULES, "aclc-lists: write fault\\n", 8), ("", "aclc-lists: out of memory\\n", 9),
                                     ("", "", 3)):
             (ended, printed, told), _ = self.convert(printed, said, code)
-            self.assertNotEqual(ended, 0)
+            self.assertEqual(ended, 2)
             self.assertEqual(printed, "")
             self.assertIn(f"aclc-lists ended with {code}", told)
 
     def test_a_name_that_is_no_program_is_told(self):
         ended, _, said = tool("convert", "iptables", "--chain", "FORWARD", DATA / "gateway.iptables-save",
                               env={"ACLC_LISTS": "/nosuch"})
-        self.assertEqual((ended, "names no program" in said), (101, True))
+        self.assertEqual((ended, "names no program" in said), (2, True))
 
 
 # What lies: it drops what the list accepts, and refuses lists that have a line for 9.9.9.9.
@@ -384,7 +384,7 @@ class EachTool(unittest.TestCase):
         page = self.folder / "page.html"
         for name, words, code in (("hits", [self.refused, self.sent], 2), ("explain", [self.refused, f"{self.sent}#1"], 2),
                                   ("dead", [self.refused], 2), ("same", [self.list, self.refused], 2),
-                                  ("changes", [self.list, self.refused, self.sent], 2), ("convert", ["iptables", self.refused], 3),
+                                  ("changes", [self.list, self.refused, self.sent], 2), ("convert", ["iptables", self.refused], 2),
                                   ("report", [self.refused, self.sent, "-o", page], 2)):
             for more in ([], ["--lenient"]):
                 ended, printed, said = self.ask(name, *words, *more)
