@@ -2,37 +2,20 @@
 """All differences of two lists: pairs of lines with their boxes and a packet, which the program confirms.
 
 The tool cuts the key space by itself. Then the program answers a packet of each box that is told, by both lists. And it
-compares the lists over all packets that are in no box of a pair: these have to get the same answer.
+compares the lists with pairs in place of answers, and so confirms that no other pair of lines decides differently.
 """
 from collections import namedtuple
 
-from aclc_tools import answers, boxes, capture, keys, labels, packet_words, parts, regions
-from aclc_tools.compared import Compared, answer_at, numbers_of
+from aclc_tools import answers, capture, keys, packet_words, parts, regions
+from aclc_tools.compared import Compared, answer_at
 from aclc_tools.differences import Differences
+from aclc_tools.pairs_as_rules import PairsAsRules
 from aclc_tools.program import leave
-from aclc_tools.rule_file import MOST_RULES
 from aclc_tools.two_lists import Change, excepted_of
 
 MOST_BOXES = 8
-# Rules that stand for the boxes of all pairs, and boxes that are joined.
-MOST_MASKS = 4_000
-MASK = 1
-# Two lists have at most so many answers.
-MOST_ANSWERS = 2 * MOST_RULES
-# A pair of lines, all its boxes, the least packet of the first one, and the boxes without those of rules that stand in
-# the place of each other.
-Told = namedtuple("Told", "pair boxes key masked")
-
-
-def rules_of_boxes(told, family, part, data):
-    """Rules above all others for the boxes of pairs, as far as they are in a part."""
-    for it in told:
-        categories = sum(1 << category for category in it.pair.categories)
-        of_family = it.masked if it.pair.family == family else ()
-        for found in (its for box in of_family for its in regions.parts_of(family, box)):
-            met = parts.meet(found, part, boxes.BITS[family])
-            if met:
-                yield parts.line(family, met, data, parts.GREATEST, categories).encode()
+# A pair of lines, all its boxes, and the least packet of the first one.
+Told = namedtuple("Told", "pair boxes key")
 
 
 def lead_anywhere(lists):
@@ -45,46 +28,13 @@ def lead_anywhere(lists):
 
 
 class Rest(Compared):
-    """Two lists over all packets that are in none of some boxes, whatever the lines do that were left out."""
+    """Two lists over all packets but those of the pairs that are told, whatever the lines do that were left out."""
 
-    def __init__(self, lists, data, given, room, told, stand_in):
-        self.lists, self.given, self.room, self.told = lists, given, room, told
+    def __init__(self, lists, given, room, found):
+        made = PairsAsRules(lists, found)
+        self.lists, self.numbers, self.given, self.room = made.lists, made.numbers, given, room
         self.least, self.left, self.parts, self.odd, self.masked = {}, [], 0, set(), [(), ()]
-        self.numbers = numbers_of(lists, labels.whatever, data)
-        # Rules that stand in the place of each other get a number of their own.
-        for number, two in enumerate(sorted({two for it in told for two in it.pair.pieces if stand_in(*two)}), 1):
-            for own, rule in zip(self.numbers, two):
-                own[rule] = MOST_ANSWERS + number
         self.search()
-
-    def masks_of(self, family, part, clipped):
-        """Rules of the boxes in a part."""
-        return list(rules_of_boxes(self.told, family, part, 0))
-
-
-class Excepted(Compared):
-    """The new list beside itself with the boxes of excepted lines above it: the same, if these lines decide there."""
-
-    def __init__(self, listed, entries, given, room, told):
-        self.lists, self.given, self.room = [listed, listed], given, room
-        self.least, self.left, self.parts, self.odd, self.masked = {}, [], 0, set(), [(), ()]
-        self.told = told
-        numbers = [0] + [MASK if listed.entry(it) in entries else MASK + 1 for it in listed.rules]
-        self.numbers = [numbers, numbers]
-        self.search()
-
-    def look(self, family, part, clipped, of_packets, great):
-        """Compares a part; whether the lists differ there at a key that no packet has."""
-        names = []
-        for owner, numbers in enumerate(self.numbers):
-            mine = [it for it in clipped if it.owner == owner]
-            masks = [] if owner else rules_of_boxes(self.told, family, part, MASK)
-            names.append(self.room.write(".rules", parts.rule_file(family, part, mine, of_packets, numbers, masks)))
-        for category, key in answers.compared(*names, self.given, great):
-            if not key.is_of_a_packet():
-                return True
-            self.least[family] = category, key
-        return False
 
 
 class AllPairs:
@@ -99,18 +49,16 @@ class AllPairs:
         self.found = Differences(two.lists, two.data)
         told = [self.pair_told(it) for it in self.found.pairs.values()]
         told.sort(key=lambda it: (it.pair.family, it.pair.old or 1 << 32, it.pair.new or 1 << 32, it.pair.categories))
-        left_out = [it for it in told if self.is_excepted(it.pair)]
-        self.told = [it for it in told if it not in left_out]
+        self.told = [it for it in told if not self.is_excepted(it.pair)]
         self.unknown = [self.untold(it) for it in self.found.untold]
         self.open = {it.pair.family for it in self.told if it.pair.is_open} | lead_anywhere(two.lists)
         self.rest = None
-        self.confirm(told, left_out)
+        self.confirm()
 
     def pair_told(self, pair):
         """A pair with its boxes."""
         found = regions.joined([piece for its in pair.pieces.values() for piece in its])
-        apart = [piece for numbers, its in pair.pieces.items() if not self.found.stand_in(*numbers) for piece in its]
-        return Told(pair, found, regions.key_of(pair.family, found[0]), regions.joined(apart))
+        return Told(pair, found, regions.key_of(pair.family, found[0]))
 
     def is_excepted(self, pair):
         """Whether an excepted line decides the packets of a pair in the new list."""
@@ -127,26 +75,16 @@ class AllPairs:
         place = self.entry(it.owner, it.number).place()
         return f"{listed.name}: {place}: what it decides is cut no further: the limit is {it.why}"
 
-    def confirm(self, told, left_out):
+    def confirm(self):
         """Lets the program confirm the packets, and that there are no others."""
         self.ask(self.told)
-        count = sum(regions.count_of_parts(it.pair.family, box) for it in told for box in it.masked)
-        if count > MOST_MASKS:
-            self.unknown.append("that these are all isn't confirmed: the limit is "
-                                f"{MOST_MASKS:,} rules for the boxes of all pairs")
-            return
-        self.rest = Rest(self.two.lists, self.two.data, self.given, self.room, told, self.found.stand_in)
+        self.rest = Rest(self.two.lists, self.given, self.room, self.found)
         self.add_left(self.rest)
         for *_, key in self.rest.least.values():
             said = packet_words.words_of(key)
             if not self.found.untold:
                 leave(f"the program says that the lists differ at {said}, and this tool finds no pair", 2)
             self.unknown.append(f"packets of no pair that is told get another answer too, as {said}")
-        if left_out:
-            again = Excepted(self.two.lists[1], self.excepted, self.given, self.room, left_out)
-            self.add_left(again)
-            if again.least:
-                leave("the program says that other lines decide some of what is excepted", 2)
 
     def add_left(self, compared):
         """Adds the parts that couldn't be compared."""

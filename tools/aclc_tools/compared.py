@@ -33,7 +33,7 @@ class Compared:
 
     def look(self, family, part, clipped, of_packets, great):
         """Compares a part; whether the lists differ there at a key that no packet has."""
-        names, masks = [], self.masks_of(family, part, clipped)
+        names, masks = [], self.masks_of(family, clipped)
         for owner, numbers in enumerate(self.numbers):
             mine = [it for it in clipped if it.owner == owner]
             names.append(self.room.write(".rules", parts.rule_file(family, part, mine, of_packets, numbers, masks)))
@@ -45,8 +45,8 @@ class Compared:
             self.least[family] = min(self.least.get(family, found), found, key=lambda it: it[:2])
         return False
 
-    def masks_of(self, family, part, clipped):
-        """Rules above all others of what lines that were left out may decide in a part by either list."""
+    def masks_of(self, family, clipped):
+        """Rules above all others of what lines that were left out may decide in either list."""
         masked = (it.part for it in clipped if it.rule.ordinal in self.masked[it.owner])
         return [parts.line(family, it, 0, parts.GREATEST).encode() for it in masked]
 

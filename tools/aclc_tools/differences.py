@@ -114,12 +114,15 @@ class Differences:
         self.lists, self.work = lists, Work()
         self.said = [labels.whatever(listed, data) for listed in lists]
         self.groups, self.untold, self.pairs = alike(lists), [], {}
-        # What decides in the other list, where a rule does: under the rule's number.
-        self.others = {}, {}
+        # What decides in the other list, where a rule does that isn't kept: under the categories and the rule's number.
+        self.others, self.ranked, self.kept = ({}, {}), {}, ({}, {})
         for family in (4, 6):
             its = [ranked(it for it in listed.rules if it.family == family) for listed in lists]
             pairs = common(*([self.key(owner, it) for it in rules] for owner, rules in enumerate(its)))
-            kept = [{rules[pair[owner]].ordinal for pair in pairs} for owner, rules in enumerate(its)]
+            self.ranked[family] = its
+            for one, other in ((its[0][old].ordinal, its[1][new].ordinal) for old, new in pairs):
+                self.kept[0][one], self.kept[1][other] = other, one
+            kept = self.kept
             for categories in self.groups:
                 both = [[it for it in rules if it.categories >> categories[0] & 1] for rules in its]
                 self.search(family, tuple(categories), [Ranked(rules) for rules in both], kept)
@@ -139,8 +142,7 @@ class Differences:
                 except TooMuch as limit:
                     self.untold.append(Untold(owner, rule.ordinal, str(limit)))
                     continue
-                known = self.others[owner].setdefault(rule.ordinal, set())
-                known.update(other.ordinal if other else None for other, _ in found)
+                self.others[owner][categories, rule.ordinal] = {it.ordinal if it else None for it, _ in found}
                 for other, pieces in found:
                     # If neither rule is kept, the pair was found from the old one.
                     if not owner:
@@ -164,7 +166,3 @@ class Differences:
         pair = Pair(family, categories, *numbers, is_open, {})
         pair = self.pairs.setdefault((family, categories, *entries, is_open), pair)
         pair.pieces.setdefault(tuple(numbers), []).extend(pieces)
-
-    def stand_in(self, old, new):
-        """Whether one rule stands in the place of another: each decides what the other does, and no other packets."""
-        return self.others[0].get(old) == {new} and self.others[1].get(new) == {old}

@@ -1,12 +1,11 @@
 # SPDX-License-Identifier: BSD-3-Clause
-"""Parts of the key space as they are told: pieces joined to few boxes, their words and values, a packet, and rules.
+"""Parts of the key space as they are told: pieces joined to few boxes, their words and values, and a packet.
 
 A box stands for the packets whose protocol, addresses and ports are in it. Without ports both count as 0, as for rules.
 """
 import ipaddress
-from itertools import product
 
-from aclc_tools import boxes, covers, keys, packet_words, parts
+from aclc_tools import boxes, covers, keys, packet_words
 
 EVERY_PORT, NO_PORT = (0, 0xFFFF), (0, 0)
 SIDES = ("source", "destination", "source_ports", "destination_ports")
@@ -124,17 +123,3 @@ def values(family, box):
     return {"protocols": [list(it) for it in protocols_of(box)],
             **{side: [address(family, it) for it in getattr(box, side)] for side in SIDES[:2]},
             **{side: list(getattr(box, side)) for side in SIDES[2:]}}
-
-
-def parts_of(family, box):
-    """The parts that a box is made of, as rules have them."""
-    bits = boxes.BITS[family]
-    for protocol, source, destination in product(boxes.masks(protocols_of(box)), boxes.prefixes(*box.source, bits),
-                                                 boxes.prefixes(*box.destination, bits)):
-        yield parts.Part(protocol, source, destination, box.source_ports, box.destination_ports)
-
-
-def count_of_parts(family, box):
-    """How many they are."""
-    networks = [boxes.prefix_count((it,), boxes.BITS[family]) for it in box[1:3]]
-    return boxes.mask_count(protocols_of(box)) * networks[0] * networks[1]

@@ -92,19 +92,10 @@ class Joined(unittest.TestCase):
                 pieces = [left for it in pieces for left in covers.without(it, piece(draw))]
             found = regions.joined(pieces)
             fewer += len(found) < len(pieces)
-            its_parts = [it for box in found for it in regions.parts_of(4, box)]
             for key in every_key():
                 there = [any(regions.has(4, it, key) for it in its) for its in (pieces, found)]
                 self.assertEqual(*there, (pieces, found, key.told()))
-                parted = any(in_part(it, key) for it in its_parts)
-                self.assertEqual(parted, there[0])
         self.assertGreater(fewer, 3)
-
-    def test_the_parts_of_a_box_are_as_many_as_is_said(self):
-        draw = drawn.chances(55)
-        for _ in range(40):
-            box = piece(draw)
-            self.assertEqual(regions.count_of_parts(4, box), len(list(regions.parts_of(4, box))))
 
     def test_a_box_in_words(self):
         every, any_port = (0, (1 << 32) - 1), (0, 0xFFFF)
@@ -133,15 +124,6 @@ def every_key():
     for protocol, source, destination in ((it, *two) for it in (1, 6) for two in ends):
         for ports in [(one, other) for one in range(4) for other in range(4)] if protocol == 6 else [(0, 0)]:
             yield keys.Key(protocol, source.to_bytes(4, "big"), destination.to_bytes(4, "big"), ports)
-
-
-def in_part(part, key):
-    """Whether a packet of a key is in a part."""
-    value, mask = part.protocol
-    networks = [address >> 32 - length == number >> 32 - length if length else True
-                for (address, length), number in zip(part[1:3], key.numbers)]
-    ranges = [low <= number <= high for (low, high), number in zip(part[3:], key.ports)]
-    return not (key.protocol ^ value) & mask and all(networks + ranges)
 
 
 WEB, ANY = "@10.0.0.0/8 0.0.0.0/0 0:65535 80:80 6/0xFF", "@0.0.0.0/0 0.0.0.0/0 0:65535 0:65535 0/0"
@@ -255,12 +237,12 @@ class Limits(Lists):
 
     def test_a_limit_is_told_by_name(self):
         for place, name, limit, part in ((differences, "MOST_STEPS", 1, "the limit is 1 comparisons"),
-                                         (differences, "MOST_PIECES", 1, "the limit is 1 pieces"),
-                                         (all_pairs, "MOST_MASKS", 0, "the limit is 0 rules")):
+                                         (differences, "MOST_PIECES", 1, "the limit is 1 pieces")):
             with mock.patch.object(place, name, limit):
                 found = self.pairs([ANY + " data=2"], [WEB + " data=1", ANY + " data=3"])
             self.assertFalse(found.is_told())
             self.assertIn(part, found.unknown[0])
+            self.assertIn("packets of no pair that is told get another answer too, as ", found.unknown[-1])
 
     def test_boxes_beyond_the_limit_are_counted(self):
         lists = [[f"@10.0.{it}.0/32 0.0.0.0/0 0:65535 80:80 6/0xFF" for it in range(12)] + [ANY + f" data={data}"]
@@ -274,33 +256,34 @@ class Limits(Lists):
         self.assertGreater(count, 0)
         self.assertIn(f"    and {count} more boxes of packets\n", printed.getvalue())
 
-    def test_the_program_finds_a_pair_or_a_box_that_is_missing(self):
-        lists = [ANY + " data=2"], [WEB + " data=1", ANY + " data=3"]
+    def ends(self, name, does, old, new, **more):
+        """Whether a run with a fault in the tool is refused."""
+        with mock.patch.object(differences.Differences, name, does), self.assertRaises(SystemExit) as end:
+            self.pairs(old, new, **more)
+        self.assertEqual(end.exception.code, 2)
+
+    def test_the_program_finds_a_pair_that_is_missing(self):
         usual = differences.Differences.add
 
         def without_one(found, family, categories, old, new, pieces):
-            usual(found, family, categories, old, new, pieces[1:] or pieces)
+            if new.ordinal != 1:
+                usual(found, family, categories, old, new, pieces)
 
-        with mock.patch.object(differences.Differences, "add", without_one), self.assertRaises(SystemExit) as end:
-            self.pairs(*lists)
-        self.assertEqual(end.exception.code, 2)
+        self.ends("add", without_one, [ANY + " data=2"], [WEB + " data=1", ANY + " data=3"])
 
-    def test_the_program_finds_what_another_line_decides_of_what_is_excepted(self):
-        lists = [ANY + " data=2"], [WEB + " data=2", ANY + " data=3"]
-        usual = differences.Differences.add
+    def test_the_program_finds_another_line_that_decides_what_is_told(self):
+        """What WEB decides is told as that of ANY, which is excepted."""
+        usual, lists = differences.Differences.decided, ([ANY + " data=2"], [WEB + " data=4", ANY + " data=3"])
 
-        def too_much(found, family, categories, old, new, pieces):
-            usual(found, family, categories, old, new, covers.of_packets(covers.piece_of(new)))
+        def of_the_last(found, both, owner, place):
+            told = usual(found, both, owner, place)
+            return [(told[-1][0], sum((pieces for _, pieces in told), []))] if owner == 0 else told[:place]
 
-        self.assertEqual(self.pairs(*lists, excepted=[2]).told, [])
-        with mock.patch.object(differences.Differences, "add", too_much), self.assertRaises(SystemExit) as end:
-            self.pairs(*lists, excepted=[2])
-        self.assertEqual(end.exception.code, 2)
+        self.assertEqual(len(self.pairs(*lists, excepted=[2]).told), 1)
+        self.ends("decided", of_the_last, *lists, excepted=[2])
 
-    def test_a_rule_in_the_place_of_another_is_confirmed_without_boxes(self):
-        before = [f"@10.{it}.0.0/16 0.0.0.0/0 0:65535 {it}:{it + 9} 6/0xFF data=1" for it in range(40)]
-        lists = [before + [ANY + f" data={data}"] for data in (1, 2)]
-        with mock.patch.object(all_pairs, "MOST_MASKS", 0):
-            self.assertTrue(self.pairs(*lists).is_told())
-            # WEB takes the place of one rule, and some of that of another.
-            self.assertFalse(self.pairs([*lists[0][:2], ANY], [lists[0][0], WEB, ANY]).is_told())
+    def test_many_boxes_are_confirmed_in_one_run(self):
+        before = [f"@10.{it}.0.0/16 10.{it}.1.0/24 0:65535 {it}:{it + 9} 6/0xFF data=1" for it in range(60)]
+        found = self.pairs(*(before + [ANY + f" data={data}"] for data in (1, 2)))
+        self.assertEqual((found.is_told(), len(found.told)), (True, 1))
+        self.assertGreater(len(found.told[0].boxes), 100)
