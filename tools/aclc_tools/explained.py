@@ -2,7 +2,8 @@
 """Which rules of a list match a packet, and why those that match and don't decide lose."""
 import collections
 
-from aclc_tools import answers, capture, keys, packet_words, walks
+from aclc_tools import answers, capture, keys, packet_words, progress, walks
+from aclc_tools.printing import shown
 from aclc_tools.program import leave
 
 NOTHING = "no rule matches"
@@ -29,7 +30,8 @@ def asked(name, room):
 def recorded(name, file, number, room):
     """The packet of a number in a capture."""
     try:
-        for place, record in enumerate(capture.records_with_times(answers.content_of(room.of_capture(file))), 1):
+        records = capture.records_with_times(answers.content_of(room.of_capture(file)))
+        for place, record in enumerate(progress.packets(records, shown(file)), 1):
             if place == number:
                 return of_record(name, record)
     except answers.Refusal as refusal:

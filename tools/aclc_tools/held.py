@@ -10,7 +10,8 @@ import sys
 from collections import defaultdict
 from pathlib import Path
 
-from aclc_tools import answers, blocks, capture, confirmed, keys
+from aclc_tools import answers, blocks, capture, confirmed, keys, progress
+from aclc_tools.printing import shown
 from aclc_tools.program import leave, note
 
 KINDS = {"ip4": 4, "ip6": 6, "other": 0, "short": 1}
@@ -101,7 +102,7 @@ class Held:
         reader = capture.records_with_times(content)
         tell_passed_over(name, content)
         try:
-            for number, found in enumerate(zip(*runs), 1):
+            for number, found in enumerate(progress.packets(zip(*runs), shown(name)), 1):
                 if found[0][0] == "packets":
                     self.check_end(name, found, reader)
                     break

@@ -4,6 +4,8 @@ import shutil
 import subprocess
 import tempfile
 
+from aclc_tools import progress
+
 # What a file of each form begins with, and the tool for it, which is in the package of its name.
 MAGICS = {b"\x1f\x8b": "gzip", b"\x28\xb5\x2f\xfd": "zstd", b"\x04\x22\x4d\x18": "lz4", b"\x02\x21\x4c\x18": "lz4"}
 # Files of zstd and of lz4 may begin with frames to skip, whose length stands after these four bytes.
@@ -34,7 +36,9 @@ def unpack(tool, head, rest, target):
         try:
             with process.stdin as pipe:
                 pipe.write(head)
-                shutil.copyfileobj(rest, pipe, PIECE)
+                pieces = iter(lambda: rest.read(PIECE), b"")
+                for piece in progress.watched(pieces, lambda count: f"{tool}: {count} MiB unpacked so far"):
+                    pipe.write(piece)
         except BrokenPipeError:
             pass  # It ended before the file did, and its code says why.
         except BaseException:

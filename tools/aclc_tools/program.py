@@ -6,6 +6,7 @@ import subprocess
 import sys
 from pathlib import Path
 
+from aclc_tools import progress
 from aclc_tools.printing import shown
 
 TOP = Path(__file__).resolve().parents[2]
@@ -85,6 +86,7 @@ def leave(message, code=1):
 def note(message):
     """A line on standard error."""
     NOTES.append(message)
+    progress.erase()
     lines = f"{Path(sys.argv[0]).name}: {message}".split("\n")
     print("\n".join(map(shown, lines)), file=sys.stderr)
 

@@ -76,8 +76,8 @@ class Following(unittest.TestCase):
                                      "ACLC_LISTS": "", "TZ": "UTC"})
 
     def written_slowly(self, *words, ends=None):
-        """What the tool tells of a capture that comes in three parts, with a wait after each, of which the second and the
-        third divide a packet; then the pipe is closed, or a signal sent."""
+        """What the tool tells of a capture that comes in three parts, with a wait after each, of which the second and
+        the third divide a packet; then the pipe is closed, or a signal sent."""
         started = self.start("--follow", "1s", *words)
         lines = []
         middle = 24 + (len(CONTENT) - 24) // 2
