@@ -5,6 +5,7 @@ import json
 import re
 import signal
 import sys
+import traceback
 
 # Control characters but TAB, what turns the direction of a text or can't be seen, and bytes that aren't UTF-8.
 UNSEEN = re.compile("[\x00-\x08\x0a-\x1f\x7f-\x9f\xad\u061c\u200b-\u200f\u2028-\u202e\u2060-\u206f\ufeff\ud800-\udfff]")
@@ -53,6 +54,12 @@ def print_csv(names, rows, left_out=(), is_live=False):
         writer.writerows(part)
 
 
+def fault_text(error):
+    """An exception that no tool means to raise, and where it was raised."""
+    at = traceback.extract_tb(error.__traceback__)[-1]
+    return f"{type(error).__name__}: {error} ({at.filename.rpartition('/')[2]}, line {at.lineno})"
+
+
 def end_of(main, code):
     """Runs a tool to its end. Whatever keeps it from telling all that it should tell ends it with this code, so that no
     other one is taken for an answer."""
@@ -77,8 +84,12 @@ def end_of(main, code):
     except KeyboardInterrupt:
         sys.stdout = None
         sys.exit(130)
-    except Exception as error:
+    except OSError as error:
         sys.stdout = None
-        what = "" if isinstance(error, OSError) else f"a fault of this tool: {type(error).__name__}: "
-        print(f"{name}: {what}{shown(str(getattr(error, 'strerror', None) or error))}", file=sys.stderr)
+        print(f"{name}: {shown(str(error.strerror or error))}", file=sys.stderr)
+        sys.exit(code)
+    except Exception as error:
+        # Any other one is a fault of the tool, for which Python's own code is 1: that would tell of a difference.
+        sys.stdout = None
+        print(f"{name}: a fault of this tool: {shown(fault_text(error))}", file=sys.stderr)
         sys.exit(code)

@@ -40,6 +40,17 @@ class Ends(unittest.TestCase):
             os.close(writing)
             self.assertEqual((started.returncode, said, list(self.folder.iterdir())), (128 + number, b"", []))
 
+    def test_a_fault_of_a_tool_is_no_answer_and_has_its_place(self):
+        """Python would end with 1, which tells of a difference. What the system refuses has its words alone."""
+        for raised, said in (("{}['x']", r"a fault of this tool: KeyError: 'x' \(<string>, line 1\)"),
+                             ("struct.unpack('B', b'')", r"a fault of this tool: error: unpack .*, line 1\)"),
+                             ("open('/nosuch')", "No such file or directory")):
+            code = f"import struct; from aclc_tools.printing import end_of; end_of(lambda: {raised}, 2)"
+            done = subprocess.run([sys.executable, "-c", code], cwd=TOP / "tools", stdout=subprocess.PIPE,
+                                  stderr=subprocess.PIPE)
+            self.assertEqual((done.returncode, done.stdout), (2, b""))
+            self.assertRegex(done.stderr.decode(), rf"^\S+: {said}\n$")
+
     @BUILT
     def test_a_name_that_begins_with_a_dash_stands_after_two(self):
         (self.folder / "-odd").write_bytes((EXAMPLES / "office.rules").read_bytes())
