@@ -175,6 +175,7 @@ class Page {
     $('side').hidden = false;
     $('said').textContent = $('side').querySelector('h2')?.textContent ?? '';
     $('body').classList.add('with-side');
+    $('side').scrollIntoView({ block: 'nearest' });
   }
 
   close(focus) {
