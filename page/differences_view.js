@@ -161,8 +161,9 @@ function sideOf(report, list, place, which) {
   const entry = place < 0 ? null : list.entries[place];
   const verdict = entry?.verdict ? make('span', { class: `verdict ${entry.verdict}` }, entry.verdict) : null;
   const name = make('strong', {}, `${which}: ${entry ? entry.place : 'no rule matches'}`);
-  const text = entry ? make('div', { class: 'code' }, entry.text) : null;
-  return make('li', {}, make('div', {}, name, ' ', verdict, `answer ${report.answerText(list, place)}`), text);
+  if (!entry) return make('li', {}, name);
+  const answer = ` answers ${report.answerText(list, place)} `;
+  return make('li', {}, make('div', {}, name, answer, verdict), make('div', { class: 'code' }, entry.text));
 }
 
 // What the captures have of a pair's packets.

@@ -33,7 +33,7 @@ export class Table {
       class: 'table', role: 'grid', 'aria-label': label, 'aria-colcount': columns.length, tabindex: 0,
       onkeydown: (event) => this.key(event), onclick: (event) => this.click(event), onfocus: () => this.enter(),
     }, this.body);
-    new ResizeObserver(() => this.draw()).observe(this.body);
+    new ResizeObserver(() => this.fitRows() || this.draw()).observe(this.body);
   }
 
   headOf() {
@@ -43,13 +43,23 @@ export class Table {
     return head;
   }
 
+  // Makes the table as high as its rows, and a bar below them if it scrolls to the side. Whether its height changed.
+  fitRows() {
+    if (!this.fit) return false;
+    const bar = this.body.offsetHeight - this.body.clientHeight;
+    const height = `${36 + bar + Math.min(this.fit, Math.max(1, this.count)) * this.rowHeight}px`;
+    const isOther = this.element.style.height !== height;
+    this.element.style.height = height;
+    return isOther;
+  }
+
   // Shows so many rows, from the first one on.
   show(count) {
     this.count = count;
     this.active = Math.min(this.active, count - 1);
     this.height = Math.min(count * this.rowHeight, MOST_HEIGHT);
     this.space.style.height = `${this.height}px`;
-    if (this.fit) this.element.style.height = `${36 + Math.min(this.fit, Math.max(1, count)) * this.rowHeight}px`;
+    this.fitRows();
     this.element.setAttribute('aria-rowcount', count + 1);
     this.clear();
     this.body.scrollTop = 0;

@@ -24,9 +24,9 @@ function drawLine(family) {
   const [near, far] = family === 4 ? ['10.0.0.', '10.0.1.'] : ['2001:db8::', '2001:db8::1:'];
   const lengths = family === 4 ? [0, 28, 30, 31, 32] : [0, 124, 126, 127, 128];
   const [low, from] = [draw(4), [65535, 3, 1][draw(3)]];
-  const more = draw(4) ? '' : ` cat=${1 + draw(3)}`;
+  const more = `${draw(5) ? '' : ` pri=${1 + draw(5)}`}${draw(4) ? '' : ` cat=${1 + draw(3)}`}`;
   return `@${near}${draw(4) * 2}/${lengths[draw(3)]} ${far}${draw(4)}/${lengths[draw(2) && 3 + draw(2)]} 0 : ${from} `
-    + `${low} : ${low + draw(3)} ${PROTOCOLS[draw(4)]} data=${1 + draw(2)}${draw(5) ? '' : ` pri=${1 + draw(5)}`}${more}`;
+    + `${low} : ${low + draw(3)} ${PROTOCOLS[draw(4)]} data=${1 + draw(2)}${more}`;
 }
 
 function listOf(lines) {
