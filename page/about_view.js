@@ -30,6 +30,9 @@ function keysText({ made, packets }) {
 
 const OF_MODULE = 'The module: proved is its code as the compiler was given it. Its change to WebAssembly, its heap, the engine of the browser and the script of this page aren’t. It was compared with the program by 1,000 commands.';
 
+const OF_PAIRS = 'The pairs of lines that answer packets differently, and for which packets: the page’s own reading. '
+  + 'It is compared with what the program says of each family, with its least keys, and with its answers to the packets.';
+
 export function aboutView(page) {
   const { report } = page;
   return [make('h2', {}, 'What answered'), programOf(report), make('h2', {}, 'The files'), filesOf(report), make('h2', {}, 'What is whose'),
@@ -37,6 +40,7 @@ export function aboutView(page) {
       make('li', {}, 'Which line decides a packet, which lines can never decide, the least keys, and whether two lists decide alike: the program’s answers. If the note above names a proof, they are proved.'),
       report.made.isModule ? make('li', {}, OF_MODULE) : '', make('li', {}, keysText(report)),
       make('li', {}, 'Times of packets, counts, and which earlier lines cover one: worked out by the tool or the page, and not proved.'),
+      report.old ? make('li', {}, OF_PAIRS) : '',
       make('li', {}, 'The list of matching lines under “why”: the page’s own reading. Its first line is compared with the program’s answer, and a difference is shown as a fault of this page.')),
     report.list && report.list.notLooked.length ? make('p', { class: 'told' }, `Not looked at: ${report.list.notLooked.join('; ')}`) : null];
 }

@@ -53,6 +53,7 @@ class Pairs(Shown):
         self.assertEqual(self.browser.evaluate(FAULTS), [])
         self.picture("pairs")
         self.assertEqual(self.browser.evaluate(CUT), [])
+        self.assertIn("and for which packets: the page’s own reading", self.tab("about"))
 
     def test_a_row_shows_both_lines_and_leads_to_a_packet(self):
         self.hour()
