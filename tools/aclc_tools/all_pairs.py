@@ -45,7 +45,7 @@ class AllPairs:
 
     def __init__(self, two, given, room):
         self.two, self.given, self.room = two, given, room
-        self.excepted = excepted_of(two.lists[1], getattr(given, "excepted", None) or ())
+        self.excepted = excepted_of(two.lists[1], given)
         self.found = Differences(two.lists, two.data)
         told = [self.pair_told(it) for it in self.found.pairs.values()]
         told.sort(key=lambda it: (it.pair.family, it.pair.old or 1 << 32, it.pair.new or 1 << 32, it.pair.categories))

@@ -60,8 +60,9 @@ class TwoLists:
             print("  " + "  ".join(filter(None, [side, labels.told(row[side], self.data).ljust(width), shown(rule)])))
 
 
-def excepted_of(listed, numbers):
-    """The entries of the lines that are excepted, by their numbers."""
+def excepted_of(listed, given):
+    """The entries of the lines that the options except, by their numbers."""
+    numbers = getattr(given, "excepted", None) or ()
     found = [entry for entry in listed.entries if entry.number is not None and entry.number in numbers]
     for number in numbers:
         if number not in {entry.number for entry in found}:
