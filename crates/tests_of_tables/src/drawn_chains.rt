@@ -14,35 +14,35 @@ use std::test::Fail;
 const SETS: u64 = 8;
 
 /// How many rules a chain has.
-const RULES: usize = 4;
+pub(crate) const RULES: usize = 4;
 
 /// The answer where no rule decides.
-const POLICY: u32 = 99;
+pub(crate) const POLICY: u32 = 99;
 
 /// All protocols, all addresses and all ports.
-const PROTOCOLS: Span = Span { low: 0, high: 0xFF };
+pub(crate) const PROTOCOLS: Span = Span { low: 0, high: 0xFF };
 
-const ADDRESSES: Span = Span {
+pub(crate) const ADDRESSES: Span = Span {
     low: 0,
     high: 0xFFFF_FFFF,
 };
 
-const PORTS: Span = Span {
+pub(crate) const PORTS: Span = Span {
     low: 0,
     high: 0xFFFF,
 };
 
 /// A rule: its sources and ports, the ports that it leaves out, and what it does.
 #[derive(Clone, Copy)]
-struct Drawn {
-    sources: Span,
-    ports: Span,
-    but: Span,
-    target: Target,
+pub(crate) struct Drawn {
+    pub(crate) sources: Span,
+    pub(crate) ports: Span,
+    pub(crate) but: Span,
+    pub(crate) target: Target,
 }
 
 /// The next number below 16.
-fn next(state: &mut u64) -> u64 {
+pub(crate) fn next(state: &mut u64) -> u64 {
     *state = state
         .wrapping_mul(6_364_136_223_846_793_005)
         .wrapping_add(1_442_695_040_888_963_407);
@@ -70,7 +70,7 @@ fn target(state: &mut u64, chain: usize) -> Target {
 }
 
 /// A rule of a chain.
-fn drawn_rule(state: &mut u64, chain: usize) -> Drawn {
+pub(crate) fn drawn_rule(state: &mut u64, chain: usize) -> Drawn {
     Drawn {
         sources: span(state),
         ports: span(state),
@@ -100,13 +100,18 @@ fn catches(rule: &Drawn, source: u64, port: u64) -> bool {
 }
 
 /// The answer of a rule.
-fn answer(chain: usize, rule: usize) -> u32 {
+pub(crate) fn answer(chain: usize, rule: usize) -> u32 {
     (chain & 3) as u32 * 10 + (rule & 7) as u32
 }
 
 /// The answer for a packet: rules are asked in order, and where a chain ends or returns the packet
 /// goes on after the jump that led there.
-fn asked(alloc: Global, chains: &[[Drawn; RULES]], source: u64, port: u64) -> Result<u32, Fail> {
+pub(crate) fn asked(
+    alloc: Global,
+    chains: &[[Drawn; RULES]],
+    source: u64,
+    port: u64,
+) -> Result<u32, Fail> {
     let mut left: Vec<(usize, usize)> = Vec::new(alloc);
     let mut chain = 0;
     let mut place = 0;

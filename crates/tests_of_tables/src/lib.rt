@@ -10,6 +10,7 @@
 //! | `chains` | chains of a firewall, against packets worked out by hand |
 //! | `comparisons` | where two lists differ, against all keys of few distinct bytes |
 //! | `drawn_chains` | drawn chains as rules, against the chains, asked rule by rule |
+//! | `drawn_conditions` | drawn chains under conditions as rules in categories, by each oracle |
 //! | `edges` | what bytes leave of a value, worked out by hand |
 //! | `filled` | tables whose words were worked out by hand |
 //! | `groups` | states whose words were worked out by hand |
@@ -29,6 +30,8 @@ mod chains;
 mod comparisons;
 #[cfg(test)]
 mod drawn_chains;
+#[cfg(test)]
+mod drawn_conditions;
 #[cfg(test)]
 mod edges;
 #[cfg(test)]
