@@ -94,6 +94,7 @@ changes_addresses Forward = false
 changes_addresses Ingress = false
 changes_addresses Egress = false
 
+-- the hook is the one where packets come from a device
 abbrev pub is_ingress : Hook → Bool
 is_ingress Ingress = true
 is_ingress Prerouting = false
@@ -103,6 +104,7 @@ is_ingress Output = false
 is_ingress Postrouting = false
 is_ingress Egress = false
 
+-- the hook is the one where packets of this host begin
 abbrev pub is_output : Hook → Bool
 is_output Output = true
 is_output Ingress = false
@@ -112,11 +114,13 @@ is_output Forward = false
 is_output Postrouting = false
 is_output Egress = false
 
+-- the type is `filter`, of which each hook has chains
 abbrev pub is_filter : ChainType → Bool
 is_filter Filter = true
 is_filter Nat = false
 is_filter Route = false
 
+-- the type is `nat`, to whose chains only first packets of connections come
 abbrev pub is_nat : ChainType → Bool
 is_nat Filter = false
 is_nat Nat = true
@@ -201,18 +205,19 @@ has_state Forward priority = true
 has_state Postrouting priority = true
 has_state Egress priority = true
 
--- the same of the base chain that is asked for, if there is one
+-- packets of the base chain that is asked for, if there is one, have an interface
 abbrev pub knows_way : Option Base → Way → Bool
 knows_way None which = true
 knows_way (Some base) which = has_way which base.hook
 
+-- the state of their connection is known there
 abbrev pub knows_state : Option Base → Bool
 knows_state None = true
 knows_state (Some base) = has_state base.hook base.priority
 
 -- ---- ways
 
--- packets come to the hook on the way from one device to another, and to this host
+-- packets come to the hook on the way to this host
 abbrev pub comes_in : Hook → Bool
 comes_in Ingress = true
 comes_in Prerouting = true
@@ -222,6 +227,7 @@ comes_in Output = false
 comes_in Postrouting = false
 comes_in Egress = false
 
+-- on the way from one device to another
 abbrev pub goes_through : Hook → Bool
 goes_through Ingress = true
 goes_through Prerouting = true

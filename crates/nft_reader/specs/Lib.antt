@@ -21,3 +21,4 @@ pub mod ShownChains
 pub mod RulesetExamples
 pub mod SetsExamples
 pub mod MapsExamples
+pub mod LimitsExamples

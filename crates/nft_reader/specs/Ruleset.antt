@@ -30,7 +30,6 @@ use Rattle.nft_reader.specs.declared.known.Answers.{Answers}
 use Rattle.nft_reader.specs.declared.known.Asked.{Asked}
 use Rattle.nft_reader.specs.declared.known.Branch.{Branch}
 use Rattle.nft_reader.specs.declared.ruleset.RuleParts as found
-use Rattle.nft_reader.specs.declared.ruleset.TheConstants.{MAX_RULESET}
 use Rattle.nft_reader.specs.Chains.{ListedChain, Names, no_chain, place_of}
 use Rattle.nft_reader.specs.Compared.{own_name}
 use Rattle.nft_reader.specs.Effects.{Effects, effects_of}
@@ -46,7 +45,7 @@ use Rattle.nft_reader.specs.Values.{first_of}
 
 -- how many bytes a ruleset may have
 abbrev pub max_ruleset : ℕ
-max_ruleset = MAX_RULESET
+max_ruleset = 16777216
 
 -- the greatest handle
 abbrev pub max_handle : ℕ

@@ -20,11 +20,12 @@ use Rattle.nft_reader.specs.Values.{first_of}
 
 -- ---- chains that may drop
 
--- a chain is marked by its place
+-- a chain is marked
 abbrev pub is_set : Option Bool → Bool
 is_set None = false
 is_set (Some mark) = mark
 
+-- a rule leads to a marked chain, which is found by its place
 abbrev pub leads_to_marked : List Bool → Lead → Bool
 leads_to_marked marks lead = is_set (slice_get marks lead.place)
 

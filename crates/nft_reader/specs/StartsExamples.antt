@@ -30,7 +30,8 @@ read assumed objects = chains_of_document (codes "in") (record {
   ported = false;
 }) (document (codes "{\"nftables\": [" ++ objects ++ codes "]}"))
 
--- a base chain: its family and its name, its handle, its type, its hook, its priority and its policy
+-- a base chain: its family and its name, its handle, its type, its hook, its priority and its
+-- policy
 abbrev base : List ℕ → List ℕ → List ℕ → List ℕ → List ℕ
 base owner handle hook policy =
     codes "{\"chain\": {" ++ owner ++ codes ", \"handle\": " ++ handle ++ codes ", " ++ hook

@@ -44,8 +44,8 @@ pub(crate) struct Lead {
     pub(crate) place: usize,
 }
 
-/// A chain of a ruleset. Contracts see a record of its name, its handle, what it is, its policy, its
-/// rules and those of them that no rule file says, and what it may do to packets of others.
+/// A chain of a ruleset. Contracts see a record of its name, its handle, what it is, its policy,
+/// its rules and those of them that no rule file says, and what it may do to packets of others.
 #[derive(Drop)]
 pub struct NftChain {
     family: Vec<u8>,

@@ -16,8 +16,8 @@ use json::Value;
 use std::alloc::AllocError;
 use std::marker::Model;
 
-/// What a rule does so far: whether no packets come to what follows in it, whether it may drop some,
-/// and which chains it leads to. Contracts see a record of these.
+/// What a rule does so far: whether no packets come to what follows in it, whether it may drop
+/// some, and which chains it leads to. Contracts see a record of these.
 #[derive(Drop)]
 pub(crate) struct Effects {
     over: bool,

@@ -49,8 +49,8 @@ pub(crate) struct Branch {
     pub(crate) does: Outcome,
 }
 
-/// What is known where objects are read: what is asked and assumed, the base chain that packets come
-/// to, if there is one, and the sets of the ruleset.
+/// What is known where objects are read: what is asked and assumed, the base chain that packets
+/// come to, if there is one, and the sets of the ruleset.
 #[derive(Drop)]
 pub(crate) struct Setting<'k, 's, 'a> {
     pub(crate) alloc: Global,

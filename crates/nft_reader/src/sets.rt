@@ -16,8 +16,8 @@ use json::Value;
 use std::alloc::{AllocError, Global};
 use std::marker::Model;
 
-/// The name of a set that a rule changes: its family, its table, and its name there. Contracts see a
-/// record of these.
+/// The name of a set that a rule changes: its family, its table, and its name there. Contracts see
+/// a record of these.
 #[derive(Drop)]
 struct Change<'a> {
     family: &'a str,
@@ -381,8 +381,8 @@ fn sets_in<'v, 'a>(
     Ok(found)
 }
 
-/// The sets and maps of a ruleset. It takes memory in proportion to their number, and to that of the
-/// statements that change some.
+/// The sets and maps of a ruleset. It takes memory in proportion to their number, and to that of
+/// the statements that change some.
 pub(crate) fn sets_of<'v, 'a>(
     alloc: Global,
     objects: &'v [Value<'a>],

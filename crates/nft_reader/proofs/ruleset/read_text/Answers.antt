@@ -23,5 +23,6 @@ returns-in-Ok-clause-fault c =
 pub returns-in-Err-Invalid-clause-fault : goal.returns-in-Err-Invalid-clause-fault
 returns-in-Err-Invalid-clause-fault c =
     let asked = question c.args.asked c.args.assumed.now in
+    let invalid = c.in-Err-Invalid.ensures.invalid (ap Err c.in-Err-Invalid.field-0-is) in
     subst (IsToldOf (chains_of_text c.args.name.now asked c.args.bytes.now)) (sym c.whole_fault.ensures)
-    (no_text c.args.name.now asked c.args.bytes.now (c.in-Err-Invalid.ensures.invalid (ap Err c.in-Err-Invalid.field-0-is)))
+    (no_text c.args.name.now asked c.args.bytes.now invalid)
