@@ -41,7 +41,8 @@ module _ (request : Request) (bytes : List ℕ) (by_line : RuleSetView) (its : A
 
   -- it is told, or refused
   pub text_ends : (set : RuleSetView) → ListedFor request bytes its set → (result : Result (Vec ℕ Global) Refusal) →
-      IsTextOfRules (premises request bytes) request.form bytes by_line.rules set.rules result → IsTextOf request bytes result
+      IsTextOfRules (premises request bytes) request.form bytes by_line.rules set.rules result →
+      IsTextOf request bytes result
   text_ends set listed (Ok text) it = record {
     text = text_by set.rules listed.rules ∙ it.text;
     decides = record {

@@ -54,7 +54,8 @@ module _ (head : List (List ℕ)) (form : Form) (bytes : List ℕ) (by_line rule
       rule_file_of text ≡ Ok (lists_of (family_of form) rules)
   text_read few short reads =
       let kept = rules_kept head form (lines_of bytes) by_line rules in
-      let fits : length (list_text (family_of form) (file_lines head form (lines_of bytes) by_line rules)) ≤ max_rule_file =
+      let fits : length (list_text (family_of form) (file_lines head form (lines_of bytes) by_line rules))
+      ≤ max_rule_file =
       subst (λ (t : List ℕ). length t ≤ max_rule_file) is (ltb-false max_rule_file (length text) short) in
       ap rule_file_of is
       ∙ reads (subst (λ (rs : List RuleView). length rs ≤ max_rules) (sym kept) few) fits

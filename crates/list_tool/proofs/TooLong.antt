@@ -42,8 +42,10 @@ long_saved asked assumed name bytes long =
 -- nor does a list of another form
 long_way : (form : Form) (its : Answers) (assumed name bytes : List ℕ) → nat_lt max_list (length bytes) ≡ true →
     way_in form its assumed name bytes ≡ Err (long_fault form assumed name)
-long_way Iptables its assumed name bytes long = long_saved (record { family = Ip4; answers = its }) assumed name bytes long
-long_way Ip6tables its assumed name bytes long = long_saved (record { family = Ip6; answers = its }) assumed name bytes long
+long_way Iptables its assumed name bytes long =
+    long_saved (record { family = Ip4; answers = its }) assumed name bytes long
+long_way Ip6tables its assumed name bytes long =
+    long_saved (record { family = Ip6; answers = its }) assumed name bytes long
 long_way Cisco its assumed name bytes long = rw long refl
 long_way Nft its assumed name bytes long = rw long refl
 long_way Nft6 its assumed name bytes long = rw long refl

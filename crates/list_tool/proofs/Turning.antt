@@ -13,7 +13,8 @@ use Rattle.list_tool.specs.Printed.{Refuses}
 use Rattle.list_tool.specs.Words.{Request}
 
 module _ (request : Request) (bytes : List ℕ) (its : Answers) (way : WayView) (layout : List FieldDef) (chains : Chains)
-    (read : way_of request its bytes ≡ Ok way) (same : layout ≡ layout_of request.form) (are : chains ≡ way.chains) where
+    (read : way_of request its bytes ≡ Ok way) (same : layout ≡ layout_of request.form)
+    (are : chains ≡ way.chains) where
   -- what is asked for is what the chains come to
   turned_so : rules_for request bytes its
       ≡ or_unturned request.form way (turned layout chains way.start.place way.start.policy)

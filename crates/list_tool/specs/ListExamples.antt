@@ -153,7 +153,8 @@ unfolding digits
 of_a_line = refl
 
 -- that a list isn't there is told of the end
-of_no_list : message (codes "edge") (codes "hostname a\n") (Refused (at_line 1 (CiscoLine entry.NoList)))
+of_no_list :
+    message (codes "edge") (codes "hostname a\n") (Refused (at_line 1 (CiscoLine entry.NoList)))
     ≡ codes "aclc-lists: list: line 1: no such list\n"
 unfolding digits
 of_no_list = refl

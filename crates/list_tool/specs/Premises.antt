@@ -1,5 +1,5 @@
--- What the rules of a rule file presuppose of packets, as the comments above them say it: which chain
--- they decide as, what is assumed, which packets are meant, and what the userdata is.
+-- What the rules of a rule file presuppose of packets, as the comments above them say it: which
+-- chain they decide as, what is assumed, which packets are meant, and what the userdata is.
 use Rattle.std.specs.Prelude.{◌≡◌, ℕ, List, [], ◌∷◌, codes, if◌then◌else◌, refl}
 use Rattle.iptables_reader.specs.SavedTables.{has_other_tables}
 use Rattle.iptables_reader.specs.declared.answers.Answers.{Answers}
@@ -36,8 +36,9 @@ abbrev pub assumed_text : List ℕ → List ℕ
 assumed_text [] = codes "nothing"
 assumed_text (byte ∷ bytes) = byte ∷ bytes
 
--- Which headers they have. A rule with `-m tcp` of legacy iptables drops a packet that is cut within
--- the header of TCP, as with udp and sctp. Legacy ip6tables looks for the protocol behind AH.
+-- Which headers they have. A rule with `-m tcp` of legacy iptables drops a packet that is cut
+-- within the header of TCP, as with udp and sctp. Legacy ip6tables looks for the protocol behind
+-- AH.
 -- Source: Linux, net/netfilter/xt_tcpudp.c, and net/ipv6/netfilter/ip6_tables.c.
 abbrev pub headers_text : Form → List ℕ
 headers_text Iptables =
@@ -63,8 +64,10 @@ abbrev pub data_text : Form → Answers → List ℕ
 data_text Iptables Line = codes "data= is the number of the line that decides."
 data_text Ip6tables Line = codes "data= is the number of the line that decides."
 data_text Cisco Line = codes "data= is the number of the line that decides, and 0 if none does."
-data_text Nft Line = codes "data= is the handle of the rule that decides, or of the chain by its policy."
-data_text Nft6 Line = codes "data= is the handle of the rule that decides, or of the chain by its policy."
+data_text Nft Line =
+    codes "data= is the handle of the rule that decides, or of the chain by its policy."
+data_text Nft6 Line =
+    codes "data= is the handle of the rule that decides, or of the chain by its policy."
 data_text form Verdict = codes "data= is 1 to accept, 2 to drop and 3 to reject."
 
 -- all of it, for the bytes of a list

@@ -1,6 +1,6 @@
--- The text of a rule file that is made of a list: what it presupposes, and its rules. Above each rule
--- stands the text of the line that it was made of, or the handle of the rule, where that isn't that of
--- the rule before it.
+-- The text of a rule file that is made of a list: what it presupposes, and its rules. Above each
+-- rule stands the text of the line that it was made of, or the handle of the rule, where that isn't
+-- that of the rule before it.
 use Rattle.std.specs.Prelude.{◌≡◌, ℕ, ◌+◌, ◌-◌, ◌==◌, List, [], ◌∷◌, ◌++◌, length, nat_lt, slice_get}
 use Rattle.std.specs.Prelude.{if◌then◌else◌, codes, map, Option, Some, None, Result, Ok, Err}
 use Rattle.field_defs.specs.declared.field.Family.{Family}

@@ -28,10 +28,11 @@ of_bytes : shown (codes "-s\t" ++ 27 ∷ codes "[2J ~" ++ 195 ∷ 188 ∷ 127 �
     ≡ codes "-s??[2J ~???"
 of_bytes = refl
 
--- 100 bytes are shown, and of 101 as many
+-- all of 100 bytes are shown
 of_many : shown (replicate 100 97) ≡ replicate 100 97
 of_many = refl
 
+-- and of 101 the first 100, and two dots
 of_more : shown (replicate 101 97) ≡ replicate 100 97 ++ codes ".."
 of_more = refl
 
@@ -39,11 +40,14 @@ of_more = refl
 of_lines : line_at (codes "a\r\nb\n") 1 ≡ Some (codes "a")
 of_lines = refl
 
+-- without what ends them
 of_second : line_at (codes "a\r\nb\n") 2 ≡ Some (codes "b")
 of_second = refl
 
+-- after the LF of the last line there is none
 of_third : line_at (codes "a\r\nb\n") 3 ≡ None
 of_third = refl
 
+-- and none has the number 0
 of_none : line_at (codes "a\r\nb\n") 0 ≡ None
 of_none = refl

@@ -21,8 +21,8 @@ pub record ListedFor (request : Request) (bytes : List ℕ) (its : Answers) (set
 
 -- A result is the text of these rules below a head of comments, and is read as them; or it is their
 -- fault, or want of memory.
-pub record IsTextOfRules (head : List (List ℕ)) (form : Form) (bytes : List ℕ) (by_line rules : List RuleView)
-    (result : Result (Vec ℕ Global) Refusal) : Type 0 where
+pub record IsTextOfRules (head : List (List ℕ)) (form : Form) (bytes : List ℕ)
+    (by_line rules : List RuleView) (result : Result (Vec ℕ Global) Refusal) : Type 0 where
   pub text : IfOk result (λ text. text_of_rules head form bytes by_line rules ≡ Ok text.items)
   pub accepted : IfOk result
       (λ text. rule_file_of text.items ≡ Ok (lists_of (family_of form) rules))

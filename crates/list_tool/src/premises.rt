@@ -10,8 +10,8 @@ use iptables_reader::{Answers, has_other_tables};
 use std::alloc::{AllocError, Global};
 
 /// The texts of the comments above the rules of a rule file: which chain they decide as, what else
-/// may drop the packets, what is assumed of them, which packets are meant, and what the userdata is.
-/// `bytes` is the list.
+/// may drop the packets, what is assumed of them, which packets are meant, and what the userdata
+/// is. `bytes` is the list.
 pub(crate) fn premises<'a>(
     alloc: Global,
     request: &Request<'a>,

@@ -219,8 +219,8 @@ fn lines_of<'a>(alloc: Global, bytes: &'a [u8]) -> Result<Vec<&'a [u8]>, AllocEr
     Ok(lines)
 }
 
-/// The lines of a rule file: those of its head, and each rule, after what is said of its number where
-/// that is another than the number before.
+/// The lines of a rule file: those of its head, and each rule, after what is said of its number
+/// where that is another than the number before.
 fn commented<'a>(
     alloc: Global,
     form: Form,

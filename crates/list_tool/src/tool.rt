@@ -31,7 +31,8 @@ use std::alloc::Global;
 /// packet of the family, the number of the line that decides, or its verdict. Above its rules stand
 /// the texts of their lines as comments. Rules and chains of `nft` have handles in the place of
 /// lines. Where the status isn't `Done` a line that names the cause goes to `err`, and below it the
-/// line of the list that is refused, whose failure changes nothing. The text is whole in memory before its first byte is put.
+/// line of the list that is refused. Where `err` fails nothing else changes. The text is whole in
+/// memory before its first byte is put.
 pub fn run_lists<D: Desk, O: Sink, E: Sink>(
     alloc: Global,
     words: &[String],

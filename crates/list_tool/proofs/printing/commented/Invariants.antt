@@ -10,4 +10,5 @@ abbrev pub invariant-loop-place : goal.invariant-loop-place
 invariant-loop-place l =
     Writes (commented l.form (map (λ text. text.now) l.texts) l.by_line l.place) l.rules l.place
     (line_views l.lines.items)
-    (map (λ text. Comment text) (map (λ text. text.now) l.head) ++ commented l.form (map (λ text. text.now) l.texts) l.by_line 0 l.rules)
+    (map (λ text. Comment text) (map (λ text. text.now) l.head)
+    ++ commented l.form (map (λ text. text.now) l.texts) l.by_line 0 l.rules)
