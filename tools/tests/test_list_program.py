@@ -267,7 +267,7 @@ class Asking(unittest.TestCase):
     def test_each_line_of_what_it_says_is_shown(self):
         told = ["aclc-lists: list: line 6: bad address", "  -A INPUT -s 10.0.0 -j DROP",
                 "aclc-lists: list: line 9: bad ports", "  -A INPUT -p tcp --dport x -j DROP"]
-        for words, code in (([], 3), (["--unproved"], 0)):
+        for words, code in (([], 2), (["--unproved"], 0)):
             (ended, _, said), _ = self.convert("", "".join(f"{line}\\n" for line in told), 3, *words)
             self.assertEqual(ended, code, said)
             self.assertIn("\n".join(told) + "\n", said)
