@@ -67,7 +67,7 @@ REFUSED = [("explain", [OFFICE, "tcp"], "explain: tcp: it is no packet"),
            ("changes", [OFFICE, "{cisco}", CAPTURE], "one list is a rule file"),
            ("hits", [OFFICE, "none"], "none: No such file"),
            ("hits", [OFFICE, CAPTURE, "--over", "0s"], "0s is no time"),
-           ("hits", [OFFICE, CAPTURE, "--over", "60"], "60 is no time"),
+           ("hits", [OFFICE, CAPTURE, "--over", "60x"], "60x is no time"),
            ("hits", [OFFICE, "{cut}"], "aclc: capture: record 3: cut"),
            ("hits", ["{image}", CAPTURE], "this is an image"),
            ("hits", [OFFICE, CAPTURE, "--form", "nft"], "the file isn't JSON")]
